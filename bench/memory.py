@@ -91,6 +91,25 @@ COMMANDS = [
     ("rewrite", r"L→su→(?<y>.)\k<y>2", r"ok→u→([^])\1\x32"),
     ("rewrite", r"L→u→(?<a>x)|(?<a>y)", r"err→name_used_twice→0..7,8..15"),
     ("strict rewrite named_capture_groups,dot_all", r"L→gms→(?<a>^.)", r"ok→gm→(^[^])"),
+    (
+        "json",
+        r'{"id":[1.0],"pattern":"(?<a>\\x41)é","flags":"y","want":["spelling","groups","display","sticky","unicode"]}',
+        r'{"id":[1.0],"status":"ok","mode":"legacy","spelling":"(?<a>A)é","groups":[{"number":1,"name":"a","start":0,"end":10,"start16":0,"end16":10}],"names":["a"],'
+        r'"unsupported":["sticky"],"display":"(?<a>\\x41)é"}',
+    ),
+    (
+        "json",
+        r'{"pattern":"^","flags":"u","want":["tree"]}',
+        r'{"id":null,"status":"ok","mode":"unicode","tree":{"type":"Pattern","start":0,"end":1,"start16":0,"end16":1,"body":{"type":"Disjunction","start":0,"end":1,"start16":0,"end16":1,'
+        r'"body":[{"type":"Alternative","start":0,"end":1,"start16":0,"end16":1,"body":[{"type":"BoundaryAssertion","start":0,"end":1,"start16":0,"end16":1,"kind":"start"}]}]}}}',
+    ),
+    (
+        "json",
+        r'{"pattern":"é\\k<b>(?<a>)","flags":"u"}',
+        r'{"id":null,"status":"refused","name":"invalid_named_reference","kind":null,"values":{"names":["a"]},"message":"Invalid regular expression: Invalid named reference",'
+        r'"field":"pattern","spans":[{"start":2,"end":7,"start16":1,"end16":6}],"help":null}',
+    ),
+    ("json", r'{"id":"a\n","pattern":1}', r'{"id":"a\n","status":"bad","why":"field `pattern` is not a string"}'),
 ]
 
 # Words that read nothing, the status, and what is written; None is what the program writes with all memory.
@@ -108,7 +127,8 @@ def bytes_of(text):
 
 
 def row_of(words, line, reply):
-    return Row(words, line, [bytes_of(line)], 0 if reply.startswith("ok") else 1, bytes_of(reply))
+    is_ok = reply.startswith("ok") or '"status":"ok"' in reply
+    return Row(words, line, [bytes_of(line)], 0 if is_ok else 1, bytes_of(reply))
 
 
 def rows():

@@ -1,4 +1,4 @@
-//! Tests of the public calls of `rx_base`, `rx_units` and `rx_ast`: what no clause says, and each call once where it succeeds.
+//! Tests of the public calls of `rx_base`, `rx_tables`, `rx_units` and `rx_ast`: what no clause says, and each call once where it succeeds.
 #![tactic(auto)]
 
 #[cfg(test)]
@@ -11,6 +11,8 @@ mod memory;
 mod quoted;
 #[cfg(test)]
 mod steps;
+#[cfg(test)]
+mod tables;
 #[cfg(test)]
 mod trees;
 #[cfg(test)]

@@ -645,89 +645,93 @@ fn readers_of_quoted_texts(rt: HostRuntime) -> Result<(), Fail> {
     agree(rt.alloc(), &ReaderCall, rows)
 }
 
-#[test]
-fn messages_of_faults_of_strings(rt: HostRuntime) -> Result<(), Fail> {
-    let span = Span::new(1, 2);
-    for (fault, message) in [
-        (StringFault::OutOfMemory, "Out of memory"),
-        (
-            StringFault::InvalidInput { span },
-            "String literal should be wrapped with ' or \", or escaped properly",
-        ),
-        (
-            StringFault::LegacyInStrictMode {
-                what: LegacyKind::Octal,
-                span,
-            },
-            "Not allowed octal escape sequence in strict mode",
-        ),
-        (
-            StringFault::LegacyInStrictMode {
-                what: LegacyKind::NonOctalDecimal,
-                span,
-            },
-            "Not allowed non octal decimal escape sequence in strict mode",
-        ),
-        (
-            StringFault::TooLargeUnicodeEscapeSequence { span },
-            "Too large unicode escape sequence",
-        ),
-    ] {
-        assert_eq!(rt; format!(in rt.alloc(); "{fault}")?.as_str(), message);
+/// Asked is a fault by its name. The answer is its message.
+struct StringMessage;
+
+impl Call for StringMessage {
+    fn answer(&self, alloc: Global, asked: &str) -> Result<String, Fail> {
+        Ok(format!(in alloc; "{}", string_fault_of(asked)?)?)
     }
-    Ok(())
+}
+
+fn string_fault_of(name: &str) -> Result<StringFault, Fail> {
+    let span = Span::new(1, 2);
+    match name {
+        "memory" => Ok(StringFault::OutOfMemory),
+        "invalid" => Ok(StringFault::InvalidInput { span }),
+        "octal" => Ok(StringFault::LegacyInStrictMode {
+            what: LegacyKind::Octal,
+            span,
+        }),
+        "non octal" => Ok(StringFault::LegacyInStrictMode {
+            what: LegacyKind::NonOctalDecimal,
+            span,
+        }),
+        "too large" => Ok(StringFault::TooLargeUnicodeEscapeSequence { span }),
+        _ => Err(Fail::new("no such fault")),
+    }
+}
+
+/// The same of templates.
+struct TemplateMessage;
+
+impl Call for TemplateMessage {
+    fn answer(&self, alloc: Global, asked: &str) -> Result<String, Fail> {
+        Ok(format!(in alloc; "{}", template_fault_of(asked)?)?)
+    }
+}
+
+fn template_fault_of(name: &str) -> Result<TemplateFault, Fail> {
+    let span = Span::new(1, 2);
+    match name {
+        "memory" => Ok(TemplateFault::OutOfMemory),
+        "invalid" => Ok(TemplateFault::InvalidInput { span }),
+        "substitution" => Ok(TemplateFault::TemplateSubstitution { span }),
+        "too large" => Ok(TemplateFault::TooLargeUnicodeEscapeSequence { span }),
+        "hex" => Ok(TemplateFault::InvalidHexEscape { span }),
+        "unicode" => Ok(TemplateFault::InvalidUnicodeEscape { span }),
+        "no escape" => Ok(TemplateFault::NotEscapeSequence { span }),
+        _ => Err(Fail::new("no such fault")),
+    }
+}
+
+/// The same of readers.
+struct ReaderMessage;
+
+impl Call for ReaderMessage {
+    fn answer(&self, alloc: Global, asked: &str) -> Result<String, Fail> {
+        Ok(format!(in alloc; "{}", reader_fault_of(asked)?)?)
+    }
+}
+
+fn reader_fault_of(name: &str) -> Result<ReaderFault, Fail> {
+    let Some((decoder, fault)) = name.split_once(' ') else {
+        return Ok(ReaderFault::OutOfMemory);
+    };
+    match decoder {
+        "string" => Ok(ReaderFault::String(string_fault_of(fault)?)),
+        _ => Ok(ReaderFault::Template(template_fault_of(fault)?)),
+    }
 }
 
 #[test]
-fn messages_of_faults_of_templates(rt: HostRuntime) -> Result<(), Fail> {
-    let span = Span::new(1, 2);
-    for (fault, message) in [
-        (TemplateFault::OutOfMemory, "Out of memory"),
-        (
-            TemplateFault::InvalidInput { span },
-            "Template literal should be wrapped with ` or escaped properly",
-        ),
-        (
-            TemplateFault::TemplateSubstitution { span },
-            "Template literal should not contain unescaped `${}`",
-        ),
-        (
-            TemplateFault::TooLargeUnicodeEscapeSequence { span },
-            "Too large unicode escape sequence",
-        ),
-        (
-            TemplateFault::InvalidHexEscape { span },
-            "Invalid hex escape sequence",
-        ),
-        (
-            TemplateFault::InvalidUnicodeEscape { span },
-            "Invalid unicode escape sequence",
-        ),
-        (
-            TemplateFault::NotEscapeSequence { span },
-            "Octal escapes, `\\8` and `\\9` are not allowed in template literals",
-        ),
-    ] {
-        assert_eq!(rt; format!(in rt.alloc(); "{fault}")?.as_str(), message);
-    }
-    Ok(())
-}
-
-#[test]
-fn messages_of_faults_of_readers(rt: HostRuntime) -> Result<(), Fail> {
-    let span = Span::new(1, 2);
-    for (fault, message) in [
-        (ReaderFault::OutOfMemory, "Out of memory"),
-        (
-            ReaderFault::String(StringFault::TooLargeUnicodeEscapeSequence { span }),
-            "Too large unicode escape sequence",
-        ),
-        (
-            ReaderFault::Template(TemplateFault::InvalidHexEscape { span }),
-            "Invalid hex escape sequence",
-        ),
-    ] {
-        assert_eq!(rt; format!(in rt.alloc(); "{fault}")?.as_str(), message);
-    }
-    Ok(())
+fn messages_of_faults(rt: HostRuntime) -> Result<(), Fail> {
+    let strings = r#"memory => Out of memory
+invalid => String literal should be wrapped with ' or ", or escaped properly
+octal => Not allowed octal escape sequence in strict mode
+non octal => Not allowed non octal decimal escape sequence in strict mode
+too large => Too large unicode escape sequence"#;
+    agree(rt.alloc(), &StringMessage, strings)?;
+    let templates = r"memory => Out of memory
+invalid => Template literal should be wrapped with ` or escaped properly
+substitution => Template literal should not contain unescaped `${}`
+too large => Too large unicode escape sequence
+hex => Invalid hex escape sequence
+unicode => Invalid unicode escape sequence
+no escape => Octal escapes, `\8` and `\9` are not allowed in template literals";
+    agree(rt.alloc(), &TemplateMessage, templates)?;
+    let readers = "memory => Out of memory
+string too large => Too large unicode escape sequence
+template hex => Invalid hex escape sequence";
+    agree(rt.alloc(), &ReaderMessage, readers)
 }

@@ -6,47 +6,66 @@ use rx_ast::{
     Pattern, Quantifier, Term,
 };
 use rx_base::{ContentEq, GetSpan, List, OutOfMemory, Span, Text};
+use rx_rows::{Call, agree};
 use std::alloc::Global;
 use std::test::Fail;
 
 const DEEP: u32 = 500_000;
 
-#[test]
-fn modifiers_are_sets_of_bits(rt: HostRuntime) {
-    let rows = [
-        // a, b, union, intersection, difference, symmetric difference, complement of a
-        (0b101, 0b110, 0b111, 0b100, 0b001, 0b011, 0b010),
-        (
-            0b1000_0001,
-            0b1000_0010,
-            0b1000_0011,
-            0b1000_0000,
-            0b001,
-            0b011,
-            0b110,
-        ),
-        (0b111, 0b010, 0b111, 0b010, 0b101, 0b101, 0b000),
-        (0b000, 0b100, 0b100, 0b000, 0b000, 0b100, 0b111),
-    ];
-    for (a, b, union, intersection, difference, symmetric_difference, complement) in rows {
-        let a = Modifier::from_bits_retain(a);
-        let b = Modifier::from_bits_retain(b);
-        assert_eq!(rt; (a | b).bits(), union);
-        assert_eq!(rt; (a & b).bits(), intersection);
-        assert_eq!(rt; (a - b).bits(), difference);
-        assert_eq!(rt; (a ^ b).bits(), symmetric_difference);
-        assert_eq!(rt; (!a).bits(), complement);
-        let mut changed = a;
-        changed.insert(b);
-        assert_eq!(rt; changed.bits(), union);
-        changed.remove(b);
-        assert_eq!(rt; changed.bits(), difference);
-        changed = a;
-        changed.toggle(b);
-        assert_eq!(rt; changed.bits(), symmetric_difference);
-        assert_eq!(rt; a.contains(b), intersection == b.bits());
-        assert_eq!(rt; a.intersects(b), intersection != 0);
+/// Asked are the bits of two sets. The answer has their union, their intersection, what the first has alone, what one has alone, and the complement of the
+/// first; the first after the second was inserted, then removed, and after it was toggled; and whether the first contains and intersects the second.
+struct Sets;
+
+impl Call for Sets {
+    fn answer(&self, alloc: Global, asked: &str) -> Result<String, Fail> {
+        let (first, second) = asked.split_once(' ').ok_or("no second set")?;
+        let (a, b) = (set_of(first)?, set_of(second)?);
+        let combined = combined(alloc, a, b)?;
+        let changed = changed(alloc, a, b)?;
+        Ok(format!(in alloc;
+            "{combined}; {changed}; {} {}",
+            a.contains(b),
+            a.intersects(b)
+        )?)
     }
+}
+
+fn set_of(bits: &str) -> Result<Modifier, Fail> {
+    let bits = u8::from_str_radix(bits, 2).ok().ok_or("no bits")?;
+    Ok(Modifier::from_bits_retain(bits))
+}
+
+fn combined(alloc: Global, a: Modifier, b: Modifier) -> Result<String, Fail> {
+    let (union, intersection) = ((a | b).bits(), (a & b).bits());
+    let (difference, symmetric_difference) = ((a - b).bits(), (a ^ b).bits());
+    Ok(format!(in alloc;
+        "{union} {intersection} {difference} {symmetric_difference} {}",
+        (!a).bits()
+    )?)
+}
+
+fn changed(alloc: Global, a: Modifier, b: Modifier) -> Result<String, Fail> {
+    let mut changed = a;
+    changed.insert(b);
+    let inserted = changed.bits();
+    changed.remove(b);
+    let removed = changed.bits();
+    changed = a;
+    changed.toggle(b);
+    Ok(format!(in alloc; "{inserted} {removed} {}", changed.bits())?)
+}
+
+#[test]
+fn modifiers_are_sets_of_bits(rt: HostRuntime) -> Result<(), Fail> {
+    let rows = "101 110 => 7 4 1 3 2; 7 1 3; false true
+10000001 10000010 => 131 128 1 3 6; 131 1 3; false true
+111 010 => 7 2 5 5 0; 7 5 5; true true
+000 100 => 4 0 0 4 7; 4 0 4; false false";
+    agree(rt.alloc(), &Sets, rows)
+}
+
+#[test]
+fn bits_of_modifiers(rt: HostRuntime) {
     assert_eq!(rt; Modifier::from_bits(7), Some(Modifier::all()));
     assert_eq!(rt; Modifier::from_bits(8), None);
     assert_eq!(rt; Modifier::from_bits(9), None);

@@ -14,14 +14,14 @@ use Rattle.std.proofs.lemmas.Str.Parse.{IsNumeralModel, numerals_by_value, tells
 use Rattle.rx_command.specs.declared.answer.Answering.{Answering}
 use Rattle.rx_command.specs.declared.answer.Answering.TheVariants.{Canonical, Display, Support, Match, Steps, Paint, PaintColor, Lint, Rewrite}
 use Rattle.rx_command.specs.declared.command.Command.{Command}
-use Rattle.rx_command.specs.declared.command.Command.TheVariants.{Serve, Generate, Print}
+use Rattle.rx_command.specs.declared.command.Command.TheVariants.{Serve, Generate, Print, Json}
 use Rattle.rx_command.specs.declared.dialect.Dialect.{Dialect}
 use Rattle.rx_command.specs.declared.dialect.Dialect.TheVariants.{Default, Strict, Standard}
 use Rattle.rx_command.specs.declared.features.Features.{Features}
 use Rattle.rx_command.specs.declared.notice.Notice.{Notice}
 use Rattle.rx_command.specs.declared.notice.Notice.TheVariants.{Help, Version}
 use Rattle.rx_command.specs.declared.service.Service.{Service}
-use Rattle.rx_command.specs.Command.{IsAnswering, IsCommand, IsDecimal, IsGen, IsServing, dialect_words}
+use Rattle.rx_command.specs.Command.{IsAnswering, IsCommand, IsDecimal, IsServing, dialect_words}
 use Rattle.rx_command.specs.Constructs.{IsConstructList}
 use Rattle.rx_command.specs.Features.{IsFeatureList}
 use Rattle.rx_command.specs.Notices.{notice_word}
@@ -237,11 +237,34 @@ more_say_nothing words more Lint is = omega (arith, ap length is)
 more_say_nothing words more (Rewrite All) is = omega (arith, ap length is)
 more_say_nothing words more (Rewrite (Listed what)) is = omega (arith, ap length is.1)
 
-pub means_nothing : (words : List (List ℕ)) → ((notice : Notice) → ¬ (words ≡ notice_word notice ∷ [])) → ((seed count : ℕ) → ¬ IsGen words seed count)
-    → ((service : Service) → ¬ IsServing words service.dialect service.answering) → (command : Command) → ¬ IsCommand words command
-means_nothing words notices gens services (Serve service) is = services service is
-means_nothing words notices gens services (Generate seed count) is = gens seed count is
-means_nothing words notices gens services (Print notice) is = notices notice is
+-- lists of words that begin with another letter
+other_letter : (words other : List (List ℕ)) → words ≡ codes "json" ∷ [] → words ≡ other → (get_or (get_or other 0 []) 0 0 == 106) ≡ false → ⊥
+other_letter words other json is differs = false≢true (sym differs ∙ ap (λ (ws : List (List ℕ)). get_or (get_or ws 0 []) 0 0 == 106) (sym is ∙ json))
+
+json_says_nothing : (rest : List (List ℕ)) (answering : Answering) → IsAnswering rest answering → rest ≡ codes "json" ∷ [] → ⊥
+json_says_nothing rest Canonical is json = other_letter rest _ json is refl
+json_says_nothing rest Display is json = other_letter rest _ json is refl
+json_says_nothing rest (Support features) is json = other_letter rest _ json is.1 refl
+json_says_nothing rest (Match budget text) is json = other_letter rest _ json is.1 refl
+json_says_nothing rest (Steps text most) is json = other_letter rest _ json is.1 refl
+json_says_nothing rest Paint is json = other_letter rest _ json is refl
+json_says_nothing rest PaintColor is json = other_letter rest _ json is refl
+json_says_nothing rest Lint is json = other_letter rest _ json is refl
+json_says_nothing rest (Rewrite All) is json = other_letter rest _ json is refl
+json_says_nothing rest (Rewrite (Listed what)) is json = other_letter rest _ json is.1 refl
+
+json_is_served_by_none : (words : List (List ℕ)) (dialect : Dialect) (answering : Answering) → words ≡ codes "json" ∷ [] → IsServing words dialect answering → ⊥
+json_is_served_by_none words Default answering json is = json_says_nothing is.rest answering is.says (sym is.words_are ∙ json)
+json_is_served_by_none words Strict answering json is = other_letter words _ json is.words_are refl
+json_is_served_by_none words Standard answering json is = other_letter words _ json is.words_are refl
+
+-- No other command has the word `json`.
+pub json_alone : (words : List (List ℕ)) (command : Command) → words ≡ codes "json" ∷ [] → IsCommand words command → command ≡ Json
+json_alone words (Serve service) json is = absurd (json_is_served_by_none words service.dialect service.answering json is)
+json_alone words (Generate seed count) json is = absurd (other_letter words _ json is.words_are refl)
+json_alone words (Print Help) json is = absurd (other_letter words _ json is refl)
+json_alone words (Print Version) json is = absurd (other_letter words _ json is refl)
+json_alone words Json json is = refl
 
 -- ---- words have one meaning
 

@@ -5,7 +5,7 @@ use Rattle.std.specs.Str.Parse.{digits_value}
 use Rattle.rx_command.specs.declared.answer.Answering.{Answering}
 use Rattle.rx_command.specs.declared.answer.Answering.TheVariants.{Canonical, Display, Support, Match, Steps, Paint, PaintColor, Lint, Rewrite}
 use Rattle.rx_command.specs.declared.command.Command.{Command}
-use Rattle.rx_command.specs.declared.command.Command.TheVariants.{Serve, Generate, Print}
+use Rattle.rx_command.specs.declared.command.Command.TheVariants.{Serve, Generate, Print, Json}
 use Rattle.rx_command.specs.declared.dialect.Dialect.{Dialect}
 use Rattle.rx_command.specs.declared.dialect.Dialect.TheVariants.{Default, Strict, Standard}
 use Rattle.rx_command.specs.Constructs.{IsConstructList}
@@ -62,6 +62,7 @@ abbrev pub IsCommand : List (List ℕ) → Command → Type 0
 IsCommand words (Serve service) = IsServing words service.dialect service.answering
 IsCommand words (Generate seed count) = IsGen words seed count
 IsCommand words (Print notice) = words ≡ notice_word notice ∷ []
+IsCommand words Json = words ≡ codes "json" ∷ []
 
 -- the words are one of the stated lists
 abbrev pub IsStated : List (List ℕ) → Type 0

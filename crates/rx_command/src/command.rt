@@ -31,6 +31,9 @@ pub enum Command<'a> {
 
     /// `--help` or `--version`: a text is written.
     Print(Notice),
+
+    /// `json`: each line of the input is a request in JSON, and each reply is one.
+    Json,
 }
 
 impl<'a> Command<'a> {
@@ -46,9 +49,28 @@ impl<'a> Command<'a> {
         if let Some(command) = generation(words) {
             return Some(command);
         }
+        if are_json(words) {
+            return Some(Command::Json);
+        }
         let service = Service::parse(words)?;
         Some(Command::Serve(service))
     }
+}
+
+/// Whether these words are `json`.
+fn are_json(words: &[Text]) -> bool
+    ensures { IsTrue result ↔ (words.now ≡ codes "json" ∷ []) }
+{
+    match words {
+        [word] => is_json(word.as_str()),
+        _ => false,
+    }
+}
+
+fn is_json(word: &str) -> bool
+    ensures { IsTrue result ↔ (word.now ≡ codes "json") }
+{
+    word == "json"
 }
 
 /// The text that these words ask for, or none where they ask for none.

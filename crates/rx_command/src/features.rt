@@ -15,7 +15,7 @@ use std::alloc::Global;
 
 /// What an engine may not support of flags and of patterns.
 #[derive(Clone, Copy)]
-enum Feature {
+pub enum Feature {
     Sticky,
     Unicode,
     DotAll,
@@ -31,7 +31,7 @@ enum Feature {
 
 impl Feature {
     /// The feature of this name, or none.
-    fn from_name(name: &str) -> Option<Feature>
+    pub fn from_name(name: &str) -> Option<Feature>
         ensures { MatchOption result
             ((feature : Named) → ¬ (name.now ≡ feature_name feature))
             (λ feature. name.now ≡ feature_name feature) }
@@ -65,7 +65,7 @@ pub struct Features {
 
 impl Features {
     /// No features.
-    fn none() -> Features
+    pub fn none() -> Features
         ensures { (feature : Named) → has_feature result feature ≡ false }
     {
         Features::default()
@@ -102,7 +102,8 @@ impl Features {
         }
     }
 
-    fn has(&self, feature: Feature) -> bool
+    /// Whether the field of a feature is set.
+    pub fn has(&self, feature: Feature) -> bool
         ensures { result ≡ has_feature self.now feature }
     {
         match feature {
@@ -121,7 +122,7 @@ impl Features {
     }
 
     /// Sets the field of a feature, and no other.
-    fn insert(&mut self, feature: Feature)
+    pub fn insert(&mut self, feature: Feature)
         ensures { (other : Named) → IsTrue (has_feature self.new other) ↔ ((other ≡ feature) ⊎ IsTrue (has_feature self.old other)) }
     {
         match feature {

@@ -14,7 +14,7 @@ mod subject;
 pub use answer::Answering;
 pub use command::Command;
 pub use dialect::Dialect;
-pub use features::Features;
+pub use features::{Feature, Features};
 pub use notice::Notice;
 pub use service::Service;
 pub use subject::Subject;

@@ -33,8 +33,8 @@ and of literals alone, so that form C is bad:
                    Where there is none,  err <TAB> name_used_twice <TAB> SPANS  or, with a LIST,  err <TAB> unsupported <TAB> SPAN
   strict           before one of these, or alone: no two groups may have one name, and \A, \z and \Z are no boundaries
   standard         before one of these, or alone: the arguments of a line of form C are read as ECMA-262 has them
-  gen SEED COUNT   reads nothing; makes COUNT patterns (1 to 20000) from a SEED below 2147483648, reads and spells each,
-                   and writes how many there were, how many were read, and how many bytes their spellings have
+  json             each line is a request in JSON, and so is its reply (docs/JSON.md): ok by its status; no input is too long
+  gen SEED COUNT   reads nothing; makes COUNT patterns (1 to 20000) from a SEED below 2147483648; writes how many are read, in how many bytes
   --help, --version  writes this text, the version
 
 Status:

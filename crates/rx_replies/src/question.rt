@@ -9,6 +9,9 @@ const ROOM: usize = 65536;
 /// How much the program writes at once, in bytes.
 const STEP: usize = 4096;
 
+/// The words with which requests and replies are JSON.
+const JSON: &str = "json";
+
 /// A pattern and how it is asked.
 #[derive(Clone, Copy)]
 pub struct Question<'a> {
@@ -22,10 +25,7 @@ pub struct Question<'a> {
 impl Question<'_> {
     /// What the program writes for the pattern, and the status that it ends with; or none where the words are not written as a table writes them.
     pub fn answer(&self, alloc: Global) -> Result<Option<Answer>, OutOfMemory> {
-        let form = self.form;
-        let flags = self.flags;
-        let pattern = self.pattern;
-        let line = format!(in alloc; "{form}\t{flags}\t{pattern}\n")?;
+        let line = self.line(alloc)?;
         let Some(words) = words_of(alloc, self.words)? else {
             return Ok(None);
         };
@@ -33,6 +33,19 @@ impl Question<'_> {
         let mut sink = MemorySink::new(alloc, ROOM, List::new(alloc), STEP)?;
         let status = run(alloc, words.as_slice(), &mut source, &mut sink);
         Ok(Some(Answer { status, sink }))
+    }
+}
+
+impl Question<'_> {
+    /// The line that asks it. As JSON it is the pattern's place in the table that holds the whole request.
+    fn line(&self, alloc: Global) -> Result<String, OutOfMemory> {
+        let form = self.form;
+        let flags = self.flags;
+        let pattern = self.pattern;
+        match self.words {
+            JSON => Ok(format!(in alloc; "{pattern}\n")?),
+            _ => Ok(format!(in alloc; "{form}\t{flags}\t{pattern}\n")?),
+        }
     }
 }
 
@@ -80,7 +93,12 @@ impl Answer {
 
     /// Whether it is this reply, with the status that belongs to it.
     pub fn is(&self, reply: &str) -> bool {
-        let status = if reply.starts_with("ok\t") {
+        let is_ok = if reply.starts_with('{') {
+            reply.contains(",\"status\":\"ok\"")
+        } else {
+            reply.starts_with("ok\t")
+        };
+        let status = if is_ok {
             Status::AllOk
         } else {
             Status::SomeRefused

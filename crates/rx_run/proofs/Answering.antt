@@ -15,8 +15,8 @@ use Rattle.rx_tools.proofs.CanonicalAnswers.{first_of, read_as}
 use Rattle.rx_command.specs.declared.answer.Answering.{Answering}
 use Rattle.rx_command.specs.declared.service.Service.{Service}
 use Rattle.rx_run.specs.Request.{Request}
-use Rattle.rx_run.specs.Reply.{IsAsked, IsReply, IsSaid, bad, said, err, bad_reply, begins_ok, canonical_reply, err_reply, input_of, mode_name}
-use Rattle.rx_run.specs.Serving.{line_front}
+use Rattle.rx_run.specs.Reply.{IsAsked, IsReply, IsSaid, answers, bad, said, err, bad_reply, begins_ok, canonical_reply, err_reply, input_of, mode_name}
+use Rattle.rx_run.specs.Serving.{LooksAtFronts, line_front}
 
 -- the parts of a reply with the spelling, added after one another
 pub canonical_reply_added : (old first second third text : List ℕ) (mode : Mode) → first ≡ old ++ (codes "ok\t" ++ mode_name mode ++ codes "\t") → second ≡ first ++ utf8 text
@@ -93,3 +93,6 @@ module _ {service : Service} where
     | inl long ↦ long_alike line (line_front line) reply (omega arith) (let len : length (line_front line) ≡ 1048577 = length-kept line (omega arith) in omega arith) is
     | inr short ↦ let P : List ℕ → Type 0 = λ x. IsReply service x reply in subst P (sym (kept-short line short)) is
   ]
+
+pub looks_at_fronts : (service : Service) → LooksAtFronts (answers service)
+looks_at_fronts service line reply ok = (λ is. (IsReply-kept line reply is.0, is.1), λ is. (IsReply-of_kept line reply is.0, is.1))

@@ -2,6 +2,11 @@ pub mod Lacking
 pub mod Lines
 pub mod Answering
 pub mod Keeping
+pub mod Ending
+pub mod Faults
+pub mod JsonLines
+pub mod Judging
+pub mod Limits
 pub mod NoRequests
 pub mod PatternsMade
 pub mod Progresses

@@ -4,6 +4,8 @@ pub mod Spans
 pub mod Reply
 pub mod Serving
 pub mod Outcome
+pub mod Limits
+pub mod Faults
 pub mod Generator
 pub mod Printing
 pub mod Status

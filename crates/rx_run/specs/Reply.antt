@@ -119,3 +119,7 @@ without_words = record { dialect = Default; answering = Canonical }
 -- a reply that says `ok`
 abbrev pub begins_ok : List ℕ → Bool
 begins_ok reply = starts_with nat_eq reply (codes "ok")
+
+-- a reply to a line, and whether it begins with `ok`
+abbrev pub answers : Service → List ℕ → List ℕ → Bool → Type 0
+answers service line reply ok = IsReply service line reply × (ok ≡ begins_ok reply)

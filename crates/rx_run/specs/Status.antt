@@ -1,6 +1,5 @@
 -- The statuses that a run of the program ends with.
-use Rattle.std.specs.Prelude.{◌≡◌, ℕ, true, false, List, [], ◌⊎◌, Option}
-use Rattle.rx_command.specs.declared.service.Service.{Service}
+use Rattle.std.specs.Prelude.{◌≡◌, ℕ, Bool, true, false, List, [], ◌⊎◌, Option}
 use Rattle.rx_run.specs.declared.run.Status.{Status}
 use Rattle.rx_run.specs.declared.run.Status.TheVariants.{AllOk, SomeRefused, Usage, ReadFault, WriteFault, OutOfMemory, TooMuch}
 use Rattle.rx_run.specs.Outcome.{IsAnswered, IsBegun}
@@ -17,14 +16,14 @@ number_of OutOfMemory = 5
 number_of TooMuch = 6
 
 -- what was read and what was written where the lines were answered, by the status
-abbrev pub Outcome : Service → Status → List ℕ → List ℕ → Type 0
-Outcome service AllOk read written = IsAnswered service read written true
-Outcome service SomeRefused read written = IsAnswered service read written false
-Outcome service Usage read written = (read ≡ []) × (written ≡ [])
-Outcome service ReadFault read written = IsBegun service read written 0
-Outcome service WriteFault read written = IsBegun service read written 1
-Outcome service OutOfMemory read written = IsBegun service read written 0
-Outcome service TooMuch read written = IsBegun service read written 0
+abbrev pub Outcome : (answers : List ℕ → List ℕ → Bool → Type 0) → Status → List ℕ → List ℕ → Type 0
+Outcome answers AllOk read written = IsAnswered answers read written true
+Outcome answers SomeRefused read written = IsAnswered answers read written false
+Outcome answers Usage read written = (read ≡ []) × (written ≡ [])
+Outcome answers ReadFault read written = IsBegun answers read written 0
+Outcome answers WriteFault read written = IsBegun answers read written 1
+Outcome answers OutOfMemory read written = IsBegun answers read written 0
+Outcome answers TooMuch read written = IsBegun answers read written 0
 
 -- the input was answered to its end
 abbrev pub IsFinished : Status → Type 0

@@ -1,17 +1,19 @@
-//! All that the program does but its `main`: it reads lines that each hold a pattern, and writes for each line the pattern's canonical spelling, or why there is none.
-//! With the word `display` it writes what `Display` writes of the pattern, with `support LIST` whether something of the list is in it, with `match BUDGET TEXT`
-//! what the pattern matches in a text, and with `steps TEXT MOST` how many Ticks that takes.
-//! With `strict` or `standard` before these words, or alone, it reads the patterns with other options.
+//! All that the program does but its `main`: it reads lines that each hold a pattern, and writes for each its canonical spelling, or why there is none.
+//! With other words it writes what `Display` writes, whether something is not supported, what is matched and in how many Ticks, tokens, colours, findings,
+//! or a plainer pattern; with `strict` or `standard` it reads with other options, and with `json` lines and replies are JSON (docs/PROGRAM.md).
 //! With the words `gen SEED COUNT` it makes patterns, and writes how many of them are read; with `--help` and `--version` it tells of itself.
 #![tactic(auto)]
 
 mod asking;
 mod generator;
 mod input;
+mod json;
+pub mod laws;
 mod line;
 pub mod over_memory;
 mod pieces;
 mod replies;
+mod replying;
 mod request;
 pub mod run;
 mod server;

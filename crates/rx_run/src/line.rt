@@ -35,7 +35,7 @@ impl Line {
         self.bytes.is_empty()
     }
 
-    /// Adds a piece, as far as it is kept. A refused call leaves the line as it was.
+    /// Adds a piece, as far as it is kept. After an error the line is as it was.
     pub fn keep(&mut self, piece: &[u8]) -> Result<(), OutOfMemory>
         requires { IsTrue (lacks ascii.line_feed piece.now) }
         ensures ok { OnOk result (self.new.bytes ≡ line_front (self.old.bytes ++ piece.now)) }
@@ -43,6 +43,11 @@ impl Line {
     {
         let count = piece.len().min(KEPT - self.bytes.len());
         self.bytes.extend_from_slice(&piece[..count])
+    }
+
+    /// Where the line takes its memory.
+    pub fn allocator(&self) -> Global {
+        self.bytes.allocator()
     }
 
     pub fn clear(&mut self)

@@ -3,7 +3,7 @@ ghost use Rattle.std.specs.Prelude.{◌≡◌, ◌≢◌, ◌<◌, ℕ, List as 
 ghost use Rattle.std.specs.List.{AllZip, concat};
 ghost use Rattle.rx_run.specs.Outcome.{IsAnswered};
 ghost use Rattle.rx_run.specs.Lines.{lines_of};
-ghost use Rattle.rx_run.specs.Reply.{IsReply, without_words};
+ghost use Rattle.rx_run.specs.Reply.{IsReply, answers, without_words};
 
 use crate::run::{Status, run};
 use rx_base::{CleanSink, CleanSource, List, MemorySink, OutOfMemory, Text};
@@ -25,8 +25,8 @@ pub fn replies(
     input: &[u8],
     room: usize,
 ) -> Result<(Status, MemorySink), OutOfMemory>
-    ensures all_ok { IfOk result (λ p. p.0 ≡ Status.AllOk → IsAnswered without_words input.now p.1.taken true) }
-    ensures some_refused { IfOk result (λ p. p.0 ≡ Status.SomeRefused → IsAnswered without_words input.now p.1.taken false) }
+    ensures all_ok { IfOk result (λ p. p.0 ≡ Status.AllOk → IsAnswered (answers without_words) input.now p.1.taken true) }
+    ensures some_refused { IfOk result (λ p. p.0 ≡ Status.SomeRefused → IsAnswered (answers without_words) input.now p.1.taken false) }
     ensures usage { IfOk result (λ p. p.0 ≢ Status.Usage) }
     ensures read_fault { IfOk result (λ p. p.0 ≢ Status.ReadFault) }
     ensures too_much { IfOk result (λ p. p.0 ≡ Status.TooMuch → 67108864 < length input.now) }

@@ -24,6 +24,7 @@ ghost use Rattle.rx_rewrite.specs.Answers.{rules_of};
 ghost use Rattle.rx_rewrite_reply.specs.Replies.{IsRewriteReply};
 
 use crate::asking::request_in;
+use crate::replying::Replying;
 use crate::request::Request;
 use crate::spans::add_spans;
 use rx_ast::Pattern;
@@ -56,28 +57,6 @@ impl Replies {
         }
     }
 
-    /// Adds the reply to a line. After a refusal a part of the reply may stand at the end.
-    pub fn add(
-        &mut self,
-        alloc: Global,
-        service: &Service<'_>,
-        line: &[u8],
-    ) -> Result<(), OutOfMemory>
-        ensures { OnOk result ((reply : Sequence ℕ) × IsReply service.now line.now reply
-            × (self.new.bytes ≡ self.old.bytes ++ reply) × (self.new.all_ok ≡ (self.old.all_ok && begins_ok reply))) }
-    {
-        let Some(request) = request_in(&service.answering, line) else {
-            return self.add_refusal(b"bad\n");
-        };
-        let options = service.dialect.options();
-        let text = request.text_field();
-        match read_pattern(alloc, request.form, text, request.flags, options) {
-            Ok((pattern, mode)) => { self.add_said(alloc, service, &request, &pattern, mode) }
-            Err(Fault::Diagnostic(cause)) => self.add_err(&cause),
-            Err(Fault::OutOfMemory) => Err(OutOfMemory),
-        }
-    }
-
     /// Adds a reply that does not begin with `ok`, or the front of one.
     fn add_refusal(&mut self, reply: &[u8]) -> Result<(), OutOfMemory>
         ensures bytes { OnOk result (self.new.bytes ≡ self.old.bytes ++ reply.now) }
@@ -90,7 +69,6 @@ impl Replies {
     /// Adds what is said of a request that is read as this tree. After an error a part of it may stand at the end.
     fn add_said(
         &mut self,
-        alloc: Global,
         service: &Service<'_>,
         request: &Request<'_>,
         pattern: &Pattern,
@@ -104,26 +82,20 @@ impl Replies {
             × (self.new.bytes ≡ self.old.bytes ++ reply) × (self.new.all_ok ≡ (self.old.all_ok && begins_ok reply))) }
     {
         match &service.answering {
-            Answering::Canonical => self.add_canonical(alloc, pattern, mode),
-            Answering::Display => self.add_display(alloc, pattern, mode),
+            Answering::Canonical => self.add_canonical(pattern, mode),
+            Answering::Display => self.add_display(pattern, mode),
             Answering::Support(features) => {
-                self.add_support(alloc, features, request.flags_field(), pattern)
+                self.add_support(features, request.flags_field(), pattern)
             }
             Answering::Match { budget, text } => {
-                self.add_match(
-                    alloc,
-                    pattern,
-                    request.flags_field(),
-                    text.as_str(),
-                    *budget,
-                )
+                self.add_match(pattern, request.flags_field(), text.as_str(), *budget)
             }
             Answering::Steps { text, most } => {
-                self.add_steps(alloc, pattern, request.flags_field(), text.as_str(), *most)
+                self.add_steps(pattern, request.flags_field(), text.as_str(), *most)
             }
-            Answering::Paint => self.add_tokens(alloc, pattern),
-            Answering::PaintColor => self.add_colors(alloc, pattern, request.text),
-            Answering::Lint => self.add_findings(alloc, pattern),
+            Answering::Paint => self.add_tokens(pattern),
+            Answering::PaintColor => self.add_colors(pattern, request.text),
+            Answering::Lint => self.add_findings(pattern),
             Answering::Rewrite(wanted) => {
                 let rewriting = Rewriting {
                     letters: request.flags_field(),
@@ -131,23 +103,22 @@ impl Replies {
                     rules: service.dialect.rules(),
                     wanted: *wanted,
                 };
-                self.add_rewritten(alloc, pattern, rewriting)
+                self.add_rewritten(pattern, rewriting)
             }
         }
     }
 
     /// Adds the reply that lists the findings in a tree.
-    fn add_findings(&mut self, alloc: Global, pattern: &Pattern) -> Result<(), OutOfMemory>
+    fn add_findings(&mut self, pattern: &Pattern) -> Result<(), OutOfMemory>
         ensures bytes { OnOk result (self.new.bytes ≡ self.old.bytes ++ findings_reply (findings (mirror pattern.now))) }
         ensures all_ok { self.new.all_ok ≡ self.old.all_ok }
     {
-        add_findings(alloc, &mut self.bytes, pattern)
+        add_findings(self.bytes.allocator(), &mut self.bytes, pattern)
     }
 
     /// Adds the reply with the plainer pattern, or with why there is none.
     fn add_rewritten(
         &mut self,
-        alloc: Global,
         pattern: &Pattern,
         rewriting: Rewriting<'_>,
     ) -> Result<(), OutOfMemory>
@@ -156,39 +127,33 @@ impl Replies {
             × (self.new.bytes ≡ self.old.bytes ++ reply) × (self.new.all_ok ≡ (self.old.all_ok && begins_ok reply))) }
     {
         let start = self.bytes.len();
-        add_rewritten(alloc, &mut self.bytes, pattern, rewriting)?;
+        add_rewritten(self.bytes.allocator(), &mut self.bytes, pattern, rewriting)?;
         self.judge_from(start);
         Ok(())
     }
 
     /// Adds the reply that lists the tokens of a tree.
-    fn add_tokens(&mut self, alloc: Global, pattern: &Pattern) -> Result<(), OutOfMemory>
+    fn add_tokens(&mut self, pattern: &Pattern) -> Result<(), OutOfMemory>
         requires { IsNestedPattern (mirror pattern.now) }
         ensures bytes { OnOk result (self.new.bytes ≡ self.old.bytes ++ tokens_reply (pattern_tokens (mirror pattern.now))) }
         ensures all_ok { self.new.all_ok ≡ self.old.all_ok }
     {
-        add_tokens(alloc, &mut self.bytes, pattern)
+        add_tokens(self.bytes.allocator(), &mut self.bytes, pattern)
     }
 
     /// Adds the reply that shows a literal in colours, by the tokens of its tree.
-    fn add_colors(
-        &mut self,
-        alloc: Global,
-        pattern: &Pattern,
-        text: &str,
-    ) -> Result<(), OutOfMemory>
+    fn add_colors(&mut self, pattern: &Pattern, text: &str) -> Result<(), OutOfMemory>
         requires nested { IsNestedPattern (mirror pattern.now) }
         requires within { pattern.now.span.end ≤ length (literal_text text.now) }
         ensures bytes { OnOk result (self.new.bytes ≡ self.old.bytes ++ color_reply (encode_utf8_all (literal_text (chars text.now))) (pattern_tokens (mirror pattern.now))) }
         ensures all_ok { self.new.all_ok ≡ self.old.all_ok }
     {
-        add_colors(alloc, &mut self.bytes, pattern, text)
+        add_colors(self.bytes.allocator(), &mut self.bytes, pattern, text)
     }
 
     /// Adds the reply that says what a tree matches in a text.
     fn add_match(
         &mut self,
-        alloc: Global,
         pattern: &Pattern,
         flags: &str,
         text: &str,
@@ -198,6 +163,7 @@ impl Replies {
             × (self.new.bytes ≡ self.old.bytes ++ reply) × (self.new.all_ok ≡ (self.old.all_ok && begins_ok reply))) }
     {
         let start = self.bytes.len();
+        let alloc = self.bytes.allocator();
         add_match(alloc, &mut self.bytes, pattern, flags, text, budget)?;
         self.judge_from(start);
         Ok(())
@@ -206,7 +172,6 @@ impl Replies {
     /// Adds the reply that says how many Ticks it takes to say so.
     fn add_steps(
         &mut self,
-        alloc: Global,
         pattern: &Pattern,
         flags: &str,
         text: &str,
@@ -216,6 +181,7 @@ impl Replies {
             × (self.new.bytes ≡ self.old.bytes ++ reply) × (self.new.all_ok ≡ (self.old.all_ok && begins_ok reply))) }
     {
         let start = self.bytes.len();
+        let alloc = self.bytes.allocator();
         add_ticks(alloc, &mut self.bytes, pattern, flags, text, most)?;
         self.judge_from(start);
         Ok(())
@@ -232,31 +198,21 @@ impl Replies {
     }
 
     /// Adds the reply with this mode and the canonical spelling of a tree.
-    fn add_canonical(
-        &mut self,
-        alloc: Global,
-        pattern: &Pattern,
-        mode: Mode,
-    ) -> Result<(), OutOfMemory>
+    fn add_canonical(&mut self, pattern: &Pattern, mode: Mode) -> Result<(), OutOfMemory>
         ensures bytes { OnOk result (self.new.bytes ≡ self.old.bytes ++ canonical_reply mode (spelling (bare pattern.now) mode)) }
         ensures all_ok { self.new.all_ok ≡ self.old.all_ok }
     {
         self.bytes.extend_from_slice(ok_front(mode).as_bytes())?;
-        append_canonical(alloc, &mut self.bytes, pattern, mode)?;
+        append_canonical(self.bytes.allocator(), &mut self.bytes, pattern, mode)?;
         self.bytes.extend_from_slice(b"\n")
     }
 
     /// Adds the reply with this mode and the text that `Display` writes of a tree.
-    fn add_display(
-        &mut self,
-        alloc: Global,
-        pattern: &Pattern,
-        mode: Mode,
-    ) -> Result<(), OutOfMemory>
+    fn add_display(&mut self, pattern: &Pattern, mode: Mode) -> Result<(), OutOfMemory>
         ensures bytes { OnOk result (self.new.bytes ≡ self.old.bytes ++ display_reply mode (encode_utf8_all (pattern_shown pattern.now))) }
         ensures all_ok { self.new.all_ok ≡ self.old.all_ok }
     {
-        let text = display_text(alloc, pattern)?;
+        let text = display_text(self.bytes.allocator(), pattern)?;
         self.add_text(text.as_str(), mode)
     }
 
@@ -275,7 +231,6 @@ impl Replies {
     /// Adds the reply that says whether something of these flags, and of a tree, is not supported.
     fn add_support(
         &mut self,
-        alloc: Global,
         features: &Features,
         flags: &str,
         pattern: &Pattern,
@@ -285,7 +240,7 @@ impl Replies {
         ensures all_ok { self.new.all_ok ≡ self.old.all_ok }
     {
         let of_flags = has_unsupported_regular_expression_flags(flags, &features.flags);
-        let of_pattern = features.are_needed(alloc, pattern)?;
+        let of_pattern = features.are_needed(self.bytes.allocator(), pattern)?;
         self.bytes
             .extend_from_slice(support_reply(of_flags, of_pattern).as_bytes())
     }
@@ -301,16 +256,46 @@ impl Replies {
         add_spans(&mut self.bytes, cause)?;
         self.bytes.extend_from_slice(b"\n")
     }
+}
 
-    /// Writes the replies that were added since the last write.
-    pub fn write<K: Sink>(&mut self, sink: &mut K) -> Result<(), Failed>
+/// Lines are answered as a service says.
+impl<'a> Replying<Service<'a>> for Replies {
+    ghost use Rattle.rx_run.specs.Reply.{answers};
+
+    ghost answers = { answers };
+
+    ghost waiting = { λ replies. replies.bytes };
+
+    ghost so_far = { λ replies. replies.all_ok };
+
+    fn add(&mut self, with: &Service<'a>, line: &[u8]) -> Result<(), OutOfMemory> {
+        let Some(request) = request_in(&with.answering, line) else {
+            return self.add_refusal(b"bad\n");
+        };
+        let alloc = self.bytes.allocator();
+        let options = with.dialect.options();
+        let text = request.text_field();
+        match read_pattern(alloc, request.form, text, request.flags, options) {
+            Ok((pattern, mode)) => self.add_said(with, &request, &pattern, mode),
+            Err(Fault::Diagnostic(cause)) => self.add_err(&cause),
+            Err(Fault::OutOfMemory) => Err(OutOfMemory),
+        }
+    }
+
+    fn write<K: Sink>(&mut self, sink: &mut K) -> Result<(), Failed>
         ensures written { Written K.taken K.fixed K.faults sink.old sink.new result self.old.bytes }
-        ensures all_ok { self.new.all_ok ≡ self.old.all_ok }
-        ensures bytes { self.new.bytes ≡ [] }
+        ensures so_far { self.new.all_ok ≡ self.old.all_ok }
+        ensures waiting { self.new.bytes ≡ [] }
     {
         let result = write_all(sink, self.bytes.as_slice());
         self.bytes.clear();
         result
+    }
+
+    fn are_ok(&self) -> bool
+        ensures { result ≡ self.now.all_ok }
+    {
+        self.all_ok
     }
 }
 

@@ -10,6 +10,8 @@ mod ends;
 #[cfg(test)]
 mod generating;
 #[cfg(test)]
+mod json;
+#[cfg(test)]
 mod limits;
 #[cfg(test)]
 mod memory;

@@ -5,8 +5,6 @@ mod characters;
 mod identifiers;
 mod properties;
 mod property_words;
-#[cfg(test)]
-mod tests;
 
 pub use characters::{
     is_class_set_reserved_double_punctuator, is_class_set_reserved_punctuator,

@@ -3,9 +3,9 @@ use Rattle.rx_run.specs.Serving.{Serves}
 use Rattle.rx_run.proofs.server.Server.answer_lines.Given as goal
 
 abbrev pub invariant-lines : goal.invariant-lines
-invariant-lines l =
-    (done new : List ℕ) × (l.bytes ≡ done ++ l.rest) × (l.self.replies.bytes ≡ l.fn.self.replies.bytes ++ new)
-    × Serves l.service l.fn.self.line.bytes l.fn.self.replies.all_ok done new l.self.line.bytes l.self.replies.all_ok
+invariant-lines g l =
+    (done new : List ℕ) × (l.bytes ≡ done ++ l.rest) × (g.R.Replying.waiting l.self.replies ≡ g.R.Replying.waiting l.fn.self.replies ++ new)
+    × Serves (g.R.Replying.answers l.with) l.fn.self.line.bytes (g.R.Replying.so_far l.fn.self.replies) done new l.self.line.bytes (g.R.Replying.so_far l.self.replies)
 
 abbrev pub decreases-lines : goal.decreases-lines
-decreases-lines l = length l.rest
+decreases-lines g l = length l.rest

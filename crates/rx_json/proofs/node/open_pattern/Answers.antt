@@ -1,0 +1,5 @@
+use Rattle.rx_json.proofs.Openings.{opens_after}
+use Rattle.rx_json.proofs.node.open_pattern.Goals as goal
+
+pub returns : goal.returns
+returns c = opens_after c.open_body.result _ _ _ _ _ _ c.in_ok-begin_node.ensures c.open_body.ensures

@@ -1,0 +1,11 @@
+pub mod Places
+pub mod Values
+pub mod Adding
+pub mod Helps
+pub mod Refusals
+pub mod Nodes
+pub mod Trees
+pub mod Located
+pub mod Openings
+pub mod Tasks
+pub mod Groups

@@ -1,0 +1,15 @@
+pub mod Alone
+pub mod Answering
+pub mod Ids
+pub mod Joining
+pub mod OneLine
+pub mod Refusing
+pub mod Replying
+pub mod Spoiling
+pub mod Told
+pub mod Asking
+pub mod Checked
+pub mod Digits
+pub mod Named
+pub mod Requested
+pub mod GroupsTold

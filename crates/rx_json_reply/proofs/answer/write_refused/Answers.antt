@@ -1,0 +1,20 @@
+use Rattle.std.proofs.Common.{◌≡◌, ◌∙◌, sym, ap, subst, ℕ, List}
+use Rattle.std.proofs.lemmas.Result.{on_ok_weaker}
+use Rattle.std.specs.Str.{IsUtf8, chars}
+use Rattle.rx_parser.specs.Inputs.{input_of}
+use Rattle.rx_json.specs.Adding.{Adds}
+use Rattle.rx_json.specs.Values.{Field, field_tokens}
+use Rattle.rx_json_reply.proofs.Refusing.{told_so}
+use Rattle.rx_json_reply.proofs.answer.write_refused.Goals as goal
+
+pub returns : goal.returns
+returns c =
+    let it = c.args.request.now in
+    let input = input_of it.form it.pattern.now it.flags it.options in
+    let side = c.in_ok-field.field in
+    let places = c.in_ok-places.places in
+    let utf8 : IsUtf8 places.text.now = subst IsUtf8 (sym c.in_ok-places.ensures.text) c.text_in-text.utf8 in
+    let told = told_so input side c.args.refusal.now places.text.now places.offset utf8 (ap chars c.in_ok-places.ensures.text ∙ c.text_in-text.ensures.text) (c.in_ok-places.ensures.offset ∙ c.offset_in.ensures) in
+    on_ok_weaker c.write_refusal.result
+    (λ added. (side, c.in_ok-field.ensures, subst (λ (fields : List Field). Adds c.args.writer.now c.write_refusal.new.writer (field_tokens fields)) told added))
+    c.write_refusal.ensures

@@ -1,0 +1,12 @@
+pub mod Fields
+pub mod Wrongs
+pub mod Wants
+pub mod Faults
+pub mod Requests
+pub mod Lines
+pub mod Held
+pub mod Alone
+pub mod Parts
+pub mod Printed
+pub mod Answers
+pub mod Begun
