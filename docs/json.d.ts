@@ -174,7 +174,7 @@ export interface Character extends Place {
     | "singleEscape"
     | "symbol"
     | "unicodeEscape";
-  /** Its code point, or the code unit of a surrogate that stands alone. */
+  /** Its code point; of one half of a character past U+FFFF with neither `u` nor `v`, and of a surrogate that stands alone, the code unit. */
   value: number;
 }
 
