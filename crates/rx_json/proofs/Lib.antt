@@ -1,11 +1,8 @@
 pub mod Lists
 pub mod Adding
-pub mod Tables
 pub mod Trees
 pub mod Openings
 pub mod Tasks
 pub mod Parts
 pub mod Names
 pub mod GroupsTold
-pub mod Units
-pub mod FlagText

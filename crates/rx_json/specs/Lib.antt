@@ -1,7 +1,5 @@
-pub mod Places
 pub mod Values
 pub mod Adding
-pub mod Helps
 pub mod Refusals
 pub mod Nodes
 pub mod Trees

@@ -1,9 +1,7 @@
 -- JSON values made of lists, and their tokens.
-use Rattle.std.specs.Prelude.{ℕ, Bool, List, [], ◌∷◌, ◌++◌, Option, Some, None, encode_utf8_all}
-use Rattle.std.specs.Borrow.{Bor}
+use Rattle.std.specs.Prelude.{ℕ, List, [], ◌∷◌, ◌++◌, Option, Some, None, encode_utf8_all}
 use Rattle.std.specs.Fmt.{decimal}
-use Rattle.std.specs.List.{flat_map}
-use Rattle.json.specs.Token.{Token, begin_object, end_object, begin_array, end_array, key}
+use Rattle.json.specs.Token.{Token, key}
 use Rattle.json.specs.Json as json
 use Rattle.json.specs.Json.{Json, Items, Members, no_items, item, no_members, member}
 use Rattle.json.specs.Tree.{json_tokens}
@@ -23,11 +21,6 @@ text_or_null (Some cs) = text cs
 abbrev pub bytes_or_null : Option (List ℕ) → Json
 bytes_or_null None = json.null
 bytes_or_null (Some bytes) = json.string bytes
-
--- the bytes of a text that is lent, if there is one
-abbrev pub borrowed : Option (Bor (List ℕ)) → Option (List ℕ)
-borrowed None = None
-borrowed (Some bytes) = Some bytes.now
 
 abbrev pub number_or_null : Option ℕ → Json
 number_or_null None = json.null

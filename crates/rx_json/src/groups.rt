@@ -1,4 +1,5 @@
 ghost use Rattle.std.specs.Prelude.{◌≡◌, ◌+◌, ◌<◌, ◌^◌, [], IfOk, OnOk, map};
+ghost use Rattle.std.specs.Option.{option_copied};
 ghost use Rattle.rx_ast.specs.Kinds.{order, pattern as pattern_kind};
 ghost use Rattle.rx_ast.specs.MirrorKinds.{capturing_kind, mirror_kind};
 ghost use Rattle.rx_ast.specs.Tree.{mirror};
@@ -6,13 +7,13 @@ ghost use Rattle.rx_visit.specs.Names.{name_of};
 ghost use Rattle.rx_json.specs.Adding.{Adds};
 ghost use Rattle.rx_json.specs.Groups.{group_of, groups_fields, groups_of, names_of, number_after, once_after};
 ghost use Rattle.rx_json.specs.Located.{located};
-ghost use Rattle.rx_json.specs.Values.{borrowed, field_tokens, text, value_tokens};
+ghost use Rattle.rx_json.specs.Values.{field_tokens, text, value_tokens};
 
 use crate::member::{write_characters_or_null, write_number, write_place};
-use crate::places::Places;
 use json::Writer;
 use rx_ast::{CapturingGroup, Pattern, RegExpAstKind};
 use rx_base::{OutOfMemory, Text};
+use rx_places::Places;
 use rx_visit::nodes_in_order;
 use std::alloc::Global;
 use std::collections::BTreeSet;
@@ -114,7 +115,7 @@ fn write_names(
 
 /// The name of a node that is a group and has one.
 fn name_in<'a>(node: RegExpAstKind<'a>) -> Option<&'a Text>
-    ensures { borrowed result ≡ name_of (mirror_kind node.entry) }
+    ensures { option_copied result ≡ name_of (mirror_kind node.entry) }
 {
     match node {
         RegExpAstKind::CapturingGroup(group) => match &group.name {

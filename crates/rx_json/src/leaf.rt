@@ -14,7 +14,6 @@ use crate::member::{
     write_characters, write_characters_or_null, write_number, write_place, write_text,
     write_text_or_null, write_truth,
 };
-use crate::places::Places;
 use json::Writer;
 use rx_ast::parts::letters;
 use rx_ast::{
@@ -22,6 +21,7 @@ use rx_ast::{
     Modifiers, NamedReference, UnicodePropertyEscape,
 };
 use rx_base::{OutOfMemory, Span};
+use rx_places::Places;
 
 /// Writes what each node begins with.
 pub fn begin_node(

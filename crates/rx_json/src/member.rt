@@ -1,13 +1,14 @@
 ghost use Rattle.std.specs.Prelude.{[], ◌∷◌, OnOk};
+ghost use Rattle.std.specs.Option.{option_copied};
 ghost use Rattle.std.specs.Str.{chars};
 ghost use Rattle.json.specs.Json.{boolean, string};
 ghost use Rattle.rx_json.specs.Adding.{Adds};
-ghost use Rattle.rx_json.specs.Places.{place_fields};
-ghost use Rattle.rx_json.specs.Values.{borrowed, bytes_or_null, field_tokens, number, number_or_null, text, text_or_null};
+ghost use Rattle.rx_json.specs.Located.{place_fields};
+ghost use Rattle.rx_json.specs.Values.{bytes_or_null, field_tokens, number, number_or_null, text, text_or_null};
 
-use crate::places::Places;
 use json::Writer;
 use rx_base::{OutOfMemory, Span, Text};
+use rx_places::Places;
 
 /// Writes a member whose value is a text.
 pub fn write_text(writer: &mut Writer, name: &str, value: &str) -> Result<(), OutOfMemory>
@@ -24,7 +25,7 @@ pub fn write_text_or_null(
     name: &str,
     value: Option<&str>,
 ) -> Result<(), OutOfMemory>
-    ensures { OnOk result (Adds writer.old writer.new (field_tokens ((name.now, bytes_or_null (borrowed value.entry)) ∷ []))) }
+    ensures { OnOk result (Adds writer.old writer.new (field_tokens ((name.now, bytes_or_null (option_copied value.entry)) ∷ []))) }
 {
     writer.key(name)?;
     match value {

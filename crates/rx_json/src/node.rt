@@ -19,13 +19,13 @@ use crate::leaf::{
 use crate::member::{
     write_characters_or_null, write_number, write_number_or_null, write_text, write_truth,
 };
-use crate::places::Places;
 use json::Writer;
 use rx_ast::{
     Alternative, CapturingGroup, CharacterClass, ClassString, ClassStringDisjunction, Disjunction,
     IgnoreGroup, LookAroundAssertion, Pattern, Quantifier, RegExpAstKind,
 };
 use rx_base::OutOfMemory;
+use rx_places::Places;
 
 /// Writes what a node begins with, up to the nodes in it.
 pub fn open_node(

@@ -1,37 +1,19 @@
-ghost use Rattle.std.specs.Prelude.{◌≡◌, ◌∷◌, [], OnOk, codes};
+ghost use Rattle.std.specs.Prelude.{◌∷◌, [], OnOk, codes};
 ghost use Rattle.std.specs.Str.{chars};
 ghost use Rattle.rx_base.specs.DiagnosticMessage.{message_of};
 ghost use Rattle.json.specs.Tree.{json_tokens};
 ghost use Rattle.rx_json.specs.Adding.{Adds};
-ghost use Rattle.rx_json.specs.Places.{place_fields};
-ghost use Rattle.rx_json.specs.Refusals.{field_name, help_at, refusal_fields, second_spans, spans_of};
-ghost use Rattle.rx_json.specs.Values.{borrowed, field_tokens, object_of, text, value_tokens};
+ghost use Rattle.rx_json.specs.Located.{place_fields};
+ghost use Rattle.rx_json.specs.Refusals.{refusal_fields, second_spans, spans_of};
+ghost use Rattle.rx_json.specs.Values.{field_tokens, object_of, text, value_tokens};
 
-use crate::help::{Help, read_from};
 use crate::member::{write_place, write_text, write_text_or_null};
-use crate::places::Places;
-use crate::values::{kind_of, write_values};
+use crate::values::write_values;
 use json::Writer;
 use rx_base::{Diagnostic, OutOfMemory, Span};
+use rx_places::Places;
+use rx_refusal::{Field, help_for, kind_of};
 use std::alloc::Global;
-
-/// In which text of a request the spans of a refusal lie.
-#[derive(Clone, Copy, Debug, PartialEq, Eq)]
-pub enum Field {
-    Flags,
-    Pattern,
-}
-
-impl Field {
-    pub fn name(self) -> &'static str
-        ensures { result.now ≡ field_name self }
-    {
-        match self {
-            Field::Flags => "flags",
-            Field::Pattern => "pattern",
-        }
-    }
-}
 
 /// Writes the members that tell of a refusal. The places are those of the text in which its spans lie.
 pub fn write_refusal(
@@ -52,7 +34,11 @@ pub fn write_refusal(
     write_message(alloc, writer, refusal)?;
     write_text(writer, "field", field.name())?;
     write_spans(writer, places, refusal)?;
-    write_text_or_null(writer, "help", help_for(places, refusal))
+    write_text_or_null(
+        writer,
+        "help",
+        help_for(places.text, places.offset, refusal),
+    )
 }
 
 fn write_message(
@@ -64,17 +50,6 @@ fn write_message(
 {
     let message = format!(in alloc; "{refusal}")?;
     write_text(writer, "message", message.as_str())
-}
-
-/// What to write instead, in a text that has these places.
-fn help_for(places: &Places<'_>, refusal: &Diagnostic) -> Option<&'static str>
-    ensures { borrowed result ≡ help_at places.now.text.now places.now.offset refusal.now }
-{
-    let span = refusal.first_span();
-    let text = places.text.as_bytes();
-    let front = read_from(text, places.byte_at(span.start));
-    let after = read_from(text, places.byte_at(span.end));
-    Some(Help::of(refusal, front, after)?.text())
 }
 
 fn write_spans(

@@ -14,10 +14,10 @@ ghost use Rattle.rx_visit.specs.Siblings.{in_order};
 
 use crate::close::Close;
 use crate::node::open_node;
-use crate::places::Places;
 use json::Writer;
 use rx_ast::{Pattern, RegExpAstKind};
 use rx_base::OutOfMemory;
+use rx_places::Places;
 use rx_tasks::{Next, Work, work_through};
 use rx_visit::{Siblings, children_of};
 use std::alloc::Global;

@@ -1,8 +1,7 @@
 -- What is answered to a request, by what the reader of patterns answers.
-use Rattle.std.proofs.Common.{◌≡◌, sym, subst, Bool, true, false, codes, List, ◌++◌, Result, Ok, Err}
+use Rattle.std.proofs.Common.{◌≡◌, sym, subst, true, false, codes, ◌++◌, Ok, Err}
 use Rattle.json.specs.Json.{Json}
 use Rattle.rx_base.specs.declared.diagnostic.Diagnostic.{Diagnostic}
-use Rattle.rx_base.specs.declared.fault.Fault.{Fault}
 use Rattle.rx_base.specs.declared.fault.Fault.TheVariants as fault
 use Rattle.rx_ast.specs.declared.term.Pattern.{Pattern}
 use Rattle.rx_model.specs.declared.mode.Mode.{Mode}
@@ -10,9 +9,10 @@ use Rattle.rx_model.specs.Inputs.Inputs.{Input}
 use Rattle.rx_model.specs.Reading.Headline.{IsAnswered, IsValid}
 use Rattle.rx_tools.specs.Spelled.{read_of}
 use Rattle.rx_tools.proofs.CanonicalAnswers.{first_of, read_as}
-use Rattle.rx_json.specs.declared.refusal.Field.{Field as Side}
+use Rattle.rx_refusal.specs.declared.field.Field.{Field as Side}
 use Rattle.rx_json.specs.Values.{object_of}
-use Rattle.rx_json_reply.specs.Answers.{IsAnswer, IsFieldOf, read, refused}
+use Rattle.rx_refusal.specs.Fields.{IsFieldOf}
+use Rattle.rx_json_reply.specs.Answers.{IsAnswer, read, refused}
 use Rattle.rx_json_reply.specs.Parts.{begun, read_fields, refused_fields}
 use Rattle.rx_json_reply.specs.Requests.{Asked, input_of}
 

@@ -5,7 +5,6 @@ pub mod Joining
 pub mod OneLine
 pub mod Refusing
 pub mod Replying
-pub mod Spoiling
 pub mod Told
 pub mod Asking
 pub mod Checked

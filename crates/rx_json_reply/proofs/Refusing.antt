@@ -3,10 +3,11 @@ use Rattle.std.proofs.Common.{◌≡◌, ◌∙◌, ap, ℕ, List, encode_utf8_a
 use Rattle.std.specs.Str.{IsUtf8, chars}
 use Rattle.rx_base.specs.declared.diagnostic.Diagnostic.{Diagnostic}
 use Rattle.rx_model.specs.Inputs.Inputs.{Input}
-use Rattle.rx_json.specs.declared.refusal.Field.{Field as Side}
+use Rattle.rx_refusal.specs.declared.field.Field.{Field as Side}
+use Rattle.rx_refusal.specs.Fields.{offset_in, text_in}
 use Rattle.rx_json.specs.Refusals.{refusal_fields}
 use Rattle.rx_json.proofs.Lists.{encoded}
-use Rattle.rx_json_reply.specs.Parts.{offset_in, refused_fields, text_in}
+use Rattle.rx_json_reply.specs.Parts.{refused_fields}
 
 pub told_so : (input : Input) (side : Side) (refusal : Diagnostic) (bytes : List ℕ) (offset : ℕ) → IsUtf8 bytes → chars bytes ≡ text_in input side → offset ≡ offset_in input side
     → refusal_fields bytes offset side refusal ≡ refused_fields input side refusal

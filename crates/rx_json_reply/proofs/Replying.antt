@@ -1,10 +1,10 @@
 -- The bytes of a reply.
-use Rattle.std.proofs.Common.{◌≡◌, ◌∙◌, ◌≤◌, refl, sym, ap, subst, append-nil, append_assoc, Bool, ℕ, List, [], ◌∷◌, ◌++◌, Some}
+use Rattle.std.proofs.Common.{◌≡◌, ◌∙◌, refl, sym, ap, append-nil, append_assoc, Bool, ℕ, List, [], ◌∷◌, ◌++◌}
 use Rattle.json.specs.Json.{Json, value}
 use Rattle.json.specs.Lex.{tokens}
 use Rattle.json.specs.Print.{print}
 use Rattle.json.specs.Token.{Token}
-use Rattle.json.specs.Tree.{depth, json_tokens}
+use Rattle.json.specs.Tree.{json_tokens}
 use Rattle.json.specs.Written.{Written}
 use Rattle.json.proofs.Printed.Trees.{value-json_tokens}
 use Rattle.rx_json.specs.Adding.{Adds}

@@ -17,13 +17,14 @@ use Rattle.rx_model.specs.Inputs.Inputs.{Input}
 use Rattle.rx_command.specs.declared.features.Feature.{Feature}
 use Rattle.rx_command.specs.Features.{feature_name, has_feature}
 use Rattle.rx_json.specs.Adding.{Adds}
-use Rattle.rx_json.specs.declared.refusal.Field.TheVariants.{Flags}
+use Rattle.rx_refusal.specs.declared.field.Field.TheVariants.{Flags}
 use Rattle.rx_json.specs.Values.{Field, field_tokens, list_of, value_tokens}
 use Rattle.rx_json.proofs.Adding.{adds_nothing, adds_then}
 use Rattle.rx_json.proofs.Lists.{encoded, values_then}
 use Rattle.rx_json_reply.specs.declared.want.Want.{Want}
 use Rattle.rx_json_reply.specs.Held.{IsWant}
-use Rattle.rx_json_reply.specs.Parts.{display_fields, is_needed, mode_name, needed_among, only_if, placed_fields, read_fields, spelling_fields, text_in, unsupported_fields}
+use Rattle.rx_refusal.specs.Fields.{text_in}
+use Rattle.rx_json_reply.specs.Parts.{display_fields, is_needed, mode_name, needed_among, only_if, placed_fields, read_fields, spelling_fields, unsupported_fields}
 use Rattle.rx_json_reply.specs.Wants.{features, has_features}
 use Rattle.rx_json_reply.proofs.Joining.{fields_last}
 

@@ -1,39 +1,20 @@
 -- What a line is answered. docs/JSON.md shows the fields of each reply.
-use Rattle.std.specs.Prelude.{◌≡◌, ℕ, Bool, true, false, List, [], ◌∷◌, ◌++◌, codes, Option, Some, None, Ok, Err}
+use Rattle.std.specs.Prelude.{◌≡◌, ℕ, Bool, true, false, List, [], ◌∷◌, ◌++◌, codes, Ok, Err}
 use Rattle.json.specs.Json as json
 use Rattle.json.specs.Json.{Json}
 use Rattle.rx_base.specs.Ascii as ascii
 use Rattle.rx_base.specs.declared.diagnostic.Diagnostic.{Diagnostic}
-use Rattle.rx_base.specs.declared.diagnostic.Diagnostic.TheVariants.{UnknownFlag, DuplicatedFlags, InvalidUnicodeFlags, InvalidInput}
 use Rattle.rx_ast.specs.declared.term.Pattern.{Pattern}
-use Rattle.rx_units.specs.declared.code_point.CodePoint.{CodePoint}
 use Rattle.rx_model.specs.declared.mode.Mode.{Mode}
-use Rattle.rx_model.specs.Inputs.Inputs.{Input}
-use Rattle.rx_model.specs.Inputs.Texts.{AreFlagUnits, HasNoUnits}
 use Rattle.rx_model.specs.Reading.Headline.{IsFirstRefusal, IsReadAs, IsValid}
-use Rattle.rx_json.specs.declared.refusal.Field.{Field as Side}
-use Rattle.rx_json.specs.declared.refusal.Field.TheVariants.{Flags, Pattern as Text}
-use Rattle.rx_json.specs.Values.{Field, object_of}
+use Rattle.rx_refusal.specs.declared.field.Field.{Field as Side}
+use Rattle.rx_refusal.specs.Fields.{IsFieldOf}
+use Rattle.rx_json.specs.Values.{object_of}
 use Rattle.rx_json_reply.specs.Lines.{IsValueOf}
 use Rattle.rx_json_reply.specs.Parts.{bad_fields, begun, read_fields, refused_fields}
 use Rattle.rx_json_reply.specs.Printed.{IsTextOf}
 use Rattle.rx_json_reply.specs.Requests.{Asked, id_of, input_of, request_of}
 use Rattle.rx_json_reply.specs.Wrongs.{Wrong}
-
--- the text in which the spans of a refusal lie by its name alone: a text that is not decoded may be either
-abbrev pub named_side : Diagnostic → Option Side
-named_side (UnknownFlag span flag) = Some Flags
-named_side (DuplicatedFlags span flag) = Some Flags
-named_side (InvalidUnicodeFlags span) = Some Flags
-named_side (InvalidInput span) = None
-named_side _ = Some Text
-
--- The spans of this refusal of an input lie in its flags, or in its text. Where one of the two is not decoded, it is the flags if they have no units, and else
--- the text.
-pub data IsFieldOf (input : Input) (refusal : Diagnostic) : Side → Type 0 where
-  by_name : (side : Side) → named_side refusal ≡ Some side → IsFieldOf input refusal side
-  spoilt_flags : (flags : List ℕ) → named_side refusal ≡ None → input.flags ≡ Some flags → HasNoUnits input.standard_strings true flags input.form → IsFieldOf input refusal Flags
-  spoilt_text : (units : List CodePoint) → named_side refusal ≡ None → AreFlagUnits input.standard_strings input.form input.flags units → IsFieldOf input refusal Text
 
 -- What is answered to what is asked, and whether its status is `ok`: what is asked is read, and that is told of it which is asked for; or its flags or text are
 -- refused, so that it is no valid one, with the first refusal.

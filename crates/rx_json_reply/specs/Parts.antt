@@ -1,5 +1,5 @@
 -- What replies consist of: the fields of a reply to a pattern that is read, to one that is refused, and to a line that is no request.
-use Rattle.std.specs.Prelude.{ℕ, ◌&&◌, ◌||◌, Bool, List, [], ◌∷◌, ◌++◌, codes, encode_utf8_all, filter, map, unwrap_or, if◌then◌else◌}
+use Rattle.std.specs.Prelude.{ℕ, ◌&&◌, ◌||◌, Bool, List, [], ◌∷◌, ◌++◌, codes, encode_utf8_all, filter, map, if◌then◌else◌}
 use Rattle.json.specs.Json.{Json, string}
 use Rattle.rx_base.specs.declared.diagnostic.Diagnostic.{Diagnostic}
 use Rattle.rx_base.specs.Texts.{is_among}
@@ -15,10 +15,11 @@ use Rattle.rx_model.specs.Inputs.Inputs.{Input}
 use Rattle.rx_model.specs.Spelling.Spelling.{spelling}
 use Rattle.rx_command.specs.declared.features.Feature.{Feature}
 use Rattle.rx_command.specs.Features.{feature_name, needs_feature}
-use Rattle.rx_json.specs.declared.refusal.Field.{Field as Side}
-use Rattle.rx_json.specs.declared.refusal.Field.TheVariants.{Flags, Pattern as Text}
+use Rattle.rx_refusal.specs.declared.field.Field.{Field as Side}
+use Rattle.rx_refusal.specs.declared.field.Field.TheVariants.{Flags}
+use Rattle.rx_refusal.specs.Fields.{offset_in, text_in}
 use Rattle.rx_json.specs.Groups.{groups_fields}
-use Rattle.rx_json.specs.Places.{place_fields}
+use Rattle.rx_json.specs.Located.{place_fields}
 use Rattle.rx_json.specs.Refusals.{refusal_fields}
 use Rattle.rx_json.specs.Trees.{tree_json}
 use Rattle.rx_json.specs.Values.{Field, list_of, text}
@@ -29,15 +30,6 @@ use Rattle.rx_json_reply.specs.Wrongs.{Wrong, why_text}
 -- what each reply begins with
 abbrev pub begun : Json → List ℕ → List Field
 begun id status = (codes "id", id) ∷ (codes "status", string status) ∷ []
-
--- the text of an input in which spans lie, and what is added to them
-abbrev pub text_in : Input → Side → List ℕ
-text_in input Flags = unwrap_or input.flags []
-text_in input Text = input.text
-
-abbrev pub offset_in : Input → Side → ℕ
-offset_in input Flags = input.flags_offset
-offset_in input Text = input.text_offset
 
 -- ---- a pattern that is read
 

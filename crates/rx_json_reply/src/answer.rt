@@ -5,13 +5,14 @@ ghost use Rattle.json.specs.Value.{value_view};
 ghost use Rattle.rx_ast.specs.Kinds.{order, pattern as pattern_kind};
 ghost use Rattle.rx_ast.specs.Tree.{mirror};
 ghost use Rattle.rx_parser.specs.Inputs.{input_of};
+ghost use Rattle.rx_refusal.specs.declared.field.Field.{Field as Side};
+ghost use Rattle.rx_refusal.specs.Fields.{IsFieldOf};
 ghost use Rattle.rx_json.specs.Adding.{Adds};
 ghost use Rattle.rx_json.specs.Groups.{groups_fields};
 ghost use Rattle.rx_json.specs.Located.{located};
 ghost use Rattle.rx_json.specs.Trees.{tree_json};
 ghost use Rattle.rx_json.specs.Values.{Field as Member, field_tokens, object_of};
-ghost use Rattle.rx_json.specs.declared.refusal.Field.{Field as Side};
-ghost use Rattle.rx_json_reply.specs.Answers.{IsAnswer, IsFieldOf};
+ghost use Rattle.rx_json_reply.specs.Answers.{IsAnswer};
 ghost use Rattle.rx_json_reply.specs.Begun.{id_json};
 ghost use Rattle.rx_json_reply.specs.Held.{Holds, IsWant};
 ghost use Rattle.rx_json_reply.specs.Parts.{display_fields, mode_name, only_if, placed_fields, read_fields, refused_fields, spelling_fields};
@@ -19,15 +20,13 @@ ghost use Rattle.rx_json_reply.specs.Requests.{Asked};
 
 use crate::member::begin_reply;
 use crate::request::Request;
-use crate::sides::{offset_in, text_in};
-use crate::spoilt::field_of;
 use crate::unsupported::write_unsupported;
 use json::{Value, Writer};
 use rx_ast::Pattern;
 use rx_base::{Diagnostic, Fault, OutOfMemory};
-use rx_json::{
-    Field, Places, write_characters, write_groups, write_refusal, write_text, write_tree,
-};
+use rx_json::{write_characters, write_groups, write_refusal, write_text, write_tree};
+use rx_places::Places;
+use rx_refusal::{field_of, offset_in, text_in};
 use rx_tools::{Mode, canonical_text, display_text, read_pattern};
 use std::alloc::Global;
 
@@ -175,9 +174,10 @@ fn write_refused(
     ensures { let input = input_of request.now.form request.now.pattern.now request.now.flags request.now.options in
         OnOk result ((side : Side) × IsFieldOf input refusal.now side × Adds writer.old writer.new (field_tokens (refused_fields input side refusal.now))) }
 {
-    let field = field_of(alloc, request, refusal)?;
-    let text = text_in(request, field);
-    let places = Places::new(alloc, text, offset_in(request, field))?;
+    let input = request.input();
+    let field = field_of(alloc, &input, refusal)?;
+    let text = text_in(&input, field);
+    let places = Places::new(alloc, text, offset_in(&input, field))?;
     write_refusal(alloc, writer, &places, field, refusal)
 }
 

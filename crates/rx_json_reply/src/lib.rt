@@ -9,8 +9,6 @@ mod members;
 mod parse;
 mod replies;
 mod request;
-mod sides;
-mod spoilt;
 mod unsupported;
 mod value;
 mod want;

@@ -3,18 +3,18 @@ ghost use Rattle.rx_ast.specs.Kinds.{order, pattern as pattern_kind};
 ghost use Rattle.rx_ast.specs.Tree.{mirror};
 ghost use Rattle.rx_command.specs.Features.{feature_name, has_feature};
 ghost use Rattle.rx_parser.specs.Inputs.{input_of};
+ghost use Rattle.rx_refusal.specs.Fields.{text_in as flags_text};
 ghost use Rattle.rx_json.specs.Adding.{Adds};
 ghost use Rattle.rx_json.specs.Values.{field_tokens, value_tokens};
 ghost use Rattle.rx_json_reply.specs.Alone.{alone};
-ghost use Rattle.rx_json_reply.specs.Parts.{is_needed, needed_among, only_if, text_in as flags_text, unsupported_fields};
+ghost use Rattle.rx_json_reply.specs.Parts.{is_needed, needed_among, only_if, unsupported_fields};
 
 use crate::request::Request;
-use crate::sides::text_in;
 use json::Writer;
 use rx_ast::Pattern;
 use rx_base::OutOfMemory;
 use rx_command::{Feature, Features};
-use rx_json::Field;
+use rx_refusal::{Field, text_in};
 use rx_tools::support::has_unsupported_regular_expression_flags;
 use std::alloc::Global;
 
@@ -95,7 +95,7 @@ fn write_if_needed(
     if !request.want.features.has(feature) {
         return Ok(());
     }
-    let letters = text_in(request, Field::Flags);
+    let letters = text_in(&request.input(), Field::Flags);
     if !is_needed(alloc, feature, letters, pattern)? {
         return Ok(());
     }

@@ -21,13 +21,13 @@ use Rattle.rx_lint.specs.declared.items.Items.{Items}
 use Rattle.rx_lint.specs.declared.ranges.Ranges.{Ranges}
 use Rattle.rx_lint.specs.Coverage.{Range, covers_both, IsStair}
 use Rattle.rx_lint.specs.Items.{AreItems, is_useless, is_character_of, is_escape_of, range_of}
-use Rattle.rx_lint.specs.Numbers.{escape_number}
+use Rattle.rx_kinds.specs.Codes.{class_escape_code}
 use Rattle.rx_lint.specs.Rules.{covers, is_same_escape}
 use Rattle.rx_lint.proofs.Stairs.{covered_added}
 use Rattle.rx_lint.proofs.Sets.{either}
 
 -- The six kinds of class escapes are told by their numbers.
-escape_told : (a b : CharacterClassEscapeKind) → is_same_escape a b ≡ nat_eq (escape_number a) (escape_number b)
+escape_told : (a b : CharacterClassEscapeKind) → is_same_escape a b ≡ nat_eq (class_escape_code a) (class_escape_code b)
 escape_told D D = refl
 escape_told NegativeD NegativeD = refl
 escape_told S S = refl

@@ -3,58 +3,18 @@ use Rattle.std.proofs.Common.{◌≡◌, refl, ap, sym, ◌∙◌, ℕ, suc, nat
 use Rattle.std.specs.List.{flat_map}
 use Rattle.std.proofs.lemmas.Bool.Decides.{nat_tests}
 use Rattle.std.proofs.lemmas.Grind.{flat_map-append}
-use Rattle.rx_ast.specs.declared.leaf.BoundaryAssertionKind.{BoundaryAssertionKind}
-use Rattle.rx_ast.specs.declared.leaf.BoundaryAssertionKind.TheVariants as boundary
-use Rattle.rx_ast.specs.declared.leaf.LookAroundAssertionKind.{LookAroundAssertionKind}
-use Rattle.rx_ast.specs.declared.leaf.LookAroundAssertionKind.TheVariants.{Lookahead, NegativeLookahead, Lookbehind, NegativeLookbehind}
-use Rattle.rx_ast.specs.declared.leaf.CharacterClassEscapeKind.{CharacterClassEscapeKind}
-use Rattle.rx_ast.specs.declared.leaf.CharacterClassEscapeKind.TheVariants.{D, NegativeD, S, NegativeS, W, NegativeW}
 use Rattle.rx_ast.specs.declared.leaf.Modifiers.{Modifiers}
-use Rattle.rx_ast.specs.declared.class.CharacterClassContentsKind.{CharacterClassContentsKind}
-use Rattle.rx_ast.specs.declared.class.CharacterClassContentsKind.TheVariants.{Union, Intersection, Subtraction}
 use Rattle.rx_ast.specs.ClassTree as in_class
 use Rattle.rx_ast.specs.Kinds.{Kind, pattern, disjunction, alternative, term, look_around, quantifier, capturing_group, ignore_group, boundary_assertion, character, dot, class_escape, property_escape, class, class_contents, class_range, string_disjunction, class_string, indexed_reference, named_reference, children}
 use Rattle.rx_ast.specs.Forest.{Forest, nothing, tree, roots, relabel}
 use Rattle.rx_lint.specs.Nodes.{trees}
-use Rattle.rx_lint.specs.Numbers.{bit, boundary_number, look_number, escape_number, contents_number, max_numbers, name_numbers, optional_name_numbers, modifiers_numbers, own_numbers, node_numbers, numbers}
+use Rattle.rx_lint.specs.Numbers.{bit, max_numbers, name_numbers, optional_name_numbers, modifiers_numbers, own_numbers, node_numbers, numbers}
 use Rattle.rx_lint.proofs.Nodes.{labels, HaveChildren, grown}
 
 pub same_bit : (a b : Bool) → bit a ≡ bit b → a ≡ b
 same_bit true true e = refl
 same_bit false false e = refl
 same_bit _ _ e = cc
-
-pub same_boundary : (a b : BoundaryAssertionKind) → boundary_number a ≡ boundary_number b → a ≡ b
-same_boundary boundary.Start boundary.Start e = refl
-same_boundary boundary.End boundary.End e = refl
-same_boundary boundary.Boundary boundary.Boundary e = refl
-same_boundary boundary.NegativeBoundary boundary.NegativeBoundary e = refl
-same_boundary boundary.StartBuffer boundary.StartBuffer e = refl
-same_boundary boundary.EndBuffer boundary.EndBuffer e = refl
-same_boundary boundary.EndBufferOptionalNewline boundary.EndBufferOptionalNewline e = refl
-same_boundary _ _ e = cc
-
-pub same_look : (a b : LookAroundAssertionKind) → look_number a ≡ look_number b → a ≡ b
-same_look Lookahead Lookahead e = refl
-same_look NegativeLookahead NegativeLookahead e = refl
-same_look Lookbehind Lookbehind e = refl
-same_look NegativeLookbehind NegativeLookbehind e = refl
-same_look _ _ e = cc
-
-pub same_escape : (a b : CharacterClassEscapeKind) → escape_number a ≡ escape_number b → a ≡ b
-same_escape D D e = refl
-same_escape NegativeD NegativeD e = refl
-same_escape S S e = refl
-same_escape NegativeS NegativeS e = refl
-same_escape W W e = refl
-same_escape NegativeW NegativeW e = refl
-same_escape _ _ e = cc
-
-pub same_contents : (a b : CharacterClassContentsKind) → contents_number a ≡ contents_number b → a ≡ b
-same_contents Union Union e = refl
-same_contents Intersection Intersection e = refl
-same_contents Subtraction Subtraction e = refl
-same_contents _ _ e = cc
 
 -- Two fronts of one list are one, and so is what comes after them.
 pub name_front : (a b us vs : List ℕ) → name_numbers a ++ us ≡ name_numbers b ++ vs → (a ≡ b) × (us ≡ vs)

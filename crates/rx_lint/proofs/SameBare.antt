@@ -13,10 +13,12 @@ use Rattle.rx_ast.specs.Tree.{Leaf, Node, Nodes, Alternatives, leaf, quantified,
 use Rattle.rx_ast.specs.Kinds as kinds
 use Rattle.rx_ast.specs.Forest.{Forest, tree}
 use Rattle.rx_ast.specs.Forget.{nowhere, three_bits, no_kind, forget_character, forget_string, forget_member, forget_members, forget_class, forget_leaf, forget_node, forget_nodes, forget_alternatives}
+use Rattle.rx_kinds.specs.Codes.{boundary_code, class_escape_code, contents_code, look_code}
+use Rattle.rx_kinds.proofs.SameCodes.{same_boundary, same_contents, same_escape, same_look}
 use Rattle.rx_lint.specs.Nodes.{characters, strings, in_contents, contents, class, in_leaf, in_term, terms, alternatives, inside, trees}
-use Rattle.rx_lint.specs.Numbers.{numbers, bit, boundary_number, look_number, escape_number, contents_number, max_numbers, name_numbers, optional_name_numbers, modifiers_numbers}
+use Rattle.rx_lint.specs.Numbers.{numbers, bit, max_numbers, name_numbers, optional_name_numbers, modifiers_numbers}
 use Rattle.rx_lint.proofs.Bare.{bare_alternative, numbers_of_bare}
-use Rattle.rx_lint.proofs.NumberRows.{rows, numbered, numbers_are_rows, one_forest, first, apart, same_bit, same_boundary, same_look, same_escape, same_contents, name_front, optional_name_front}
+use Rattle.rx_lint.proofs.NumberRows.{rows, numbered, numbers_are_rows, one_forest, first, apart, same_bit, name_front, optional_name_front}
 
 -- the first node of a forest, the nodes in it, and the nodes after it
 label_of : (l m : List ℕ) (i j b c : Forest (List ℕ)) → tree l i b ≡ tree m j c → l ≡ m
@@ -96,7 +98,7 @@ mutual
       ∙ ap (λ c. in_class.range (record { span = nowhere; min = forget_character no_kind q.min; max = c })) (same_character r.max q.max w)
   same_member (in_class.escape r) (in_class.escape q) e =
       let l = label_of _ _ _ _ _ _ e in
-      let v : escape_number r.kind ≡ escape_number q.kind = cc in
+      let v : class_escape_code r.kind ≡ class_escape_code q.kind = cc in
       ap (λ v. in_class.escape (record { span = nowhere; kind = v })) (same_escape _ _ v)
   same_member (in_class.property r) (in_class.property q) e =
       let l = label_of _ _ _ _ _ _ e in
@@ -131,7 +133,7 @@ mutual
       let l = label_of _ _ _ _ _ _ e in
       let v : bit negative ≡ bit positive = cc in
       let w : bit may ≡ bit might = cc in
-      let x : contents_number kind ≡ contents_number sort = cc in
+      let x : contents_code kind ≡ contents_code sort = cc in
       let all = same_members ms ns (inner_of _ _ _ _ _ _ e) in
       ap (λ v. in_class.class nowhere v may kind (forget_members no_kind ms)) (same_bit _ _ v) ∙ ap (λ v. in_class.class nowhere positive v kind (forget_members no_kind ms)) (same_bit _ _ w)
       ∙ ap (λ v. in_class.class nowhere positive might v (forget_members no_kind ms)) (same_contents _ _ x) ∙ ap (λ v. in_class.class nowhere positive might sort v) all
@@ -139,7 +141,7 @@ mutual
 same_leaf : (l m : Leaf) → numbered (in_leaf l) ≡ numbered (in_leaf m) → forget_leaf no_kind l ≡ forget_leaf no_kind m
 same_leaf (ast.boundary r) (ast.boundary q) e =
     let l = label_of _ _ _ _ _ _ e in
-    let v : boundary_number r.kind ≡ boundary_number q.kind = cc in
+    let v : boundary_code r.kind ≡ boundary_code q.kind = cc in
     ap (λ v. ast.boundary (record { span = nowhere; kind = v })) (same_boundary _ _ v)
 same_leaf (ast.character r) (ast.character q) e =
     let l = label_of _ _ _ _ _ _ e in
@@ -148,7 +150,7 @@ same_leaf (ast.character r) (ast.character q) e =
 same_leaf (ast.dot r) (ast.dot q) e = refl
 same_leaf (ast.class_escape r) (ast.class_escape q) e =
     let l = label_of _ _ _ _ _ _ e in
-    let v : escape_number r.kind ≡ escape_number q.kind = cc in
+    let v : class_escape_code r.kind ≡ class_escape_code q.kind = cc in
     ap (λ v. ast.class_escape (record { span = nowhere; kind = v })) (same_escape _ _ v)
 same_leaf (ast.property r) (ast.property q) e =
     let l = label_of _ _ _ _ _ _ e in
@@ -203,7 +205,7 @@ mutual
       ap (λ o. group nowhere (ast.ignoring o) nowhere (forget_alternatives no_kind more)) (same_modifiers _ _ v) ∙ ap (λ x. group nowhere (ast.ignoring (option_map three_bits p)) nowhere x) all
   same_node (group s (ast.looking o) d more) (group t (ast.looking p) f others) e =
       let l = label_of _ _ _ _ _ _ e in
-      let v : look_number o ≡ look_number p = cc in
+      let v : look_code o ≡ look_code p = cc in
       let all = same_alternatives more others (inner_of _ _ _ _ _ _ (inner_of _ _ _ _ _ _ e)) in
       ap (λ o. group nowhere (ast.looking o) nowhere (forget_alternatives no_kind more)) (same_look _ _ v) ∙ ap (λ x. group nowhere (ast.looking p) nowhere x) all
   same_node (leaf l) (quantified t least most eager n) e = let f = leaf_first l _ _ _ e in cc

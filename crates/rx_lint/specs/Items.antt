@@ -6,8 +6,8 @@ use Rattle.std.specs.List.{flat_map, list_any}
 use Rattle.std.specs.Ordering.{nat_cmp}
 use Rattle.rx_ast.specs.ClassTree.{Member, range, escape, character}
 use Rattle.rx_lint.specs.declared.items.Items.{Items}
+use Rattle.rx_kinds.specs.Codes.{class_escape_code}
 use Rattle.rx_lint.specs.Coverage.{Range, IsStair}
-use Rattle.rx_lint.specs.Numbers.{escape_number}
 use Rattle.rx_lint.specs.Rules.{makes_useless}
 
 -- whether one of the items before makes an item useless
@@ -21,7 +21,7 @@ is_character_of v _ = false
 
 -- a class escape of the kind with this number
 abbrev pub is_escape_of : ℕ → Member → Bool
-is_escape_of n (escape e) = nat_eq (escape_number e.kind) n
+is_escape_of n (escape e) = nat_eq (class_escape_code e.kind) n
 is_escape_of n _ = false
 
 -- the range that an item is, where its min is at most its max

@@ -2,51 +2,16 @@
 use Rattle.std.specs.Prelude.{ℕ, ◌%◌, Bool, true, false, Option, Some, None, List, [], ◌∷◌, ◌++◌, length}
 use Rattle.std.specs.List.{flat_map}
 use Rattle.std.specs.Str.{bytes_eq}
-use Rattle.rx_ast.specs.declared.leaf.BoundaryAssertionKind.{BoundaryAssertionKind}
-use Rattle.rx_ast.specs.declared.leaf.BoundaryAssertionKind.TheVariants as boundary
-use Rattle.rx_ast.specs.declared.leaf.LookAroundAssertionKind.{LookAroundAssertionKind}
-use Rattle.rx_ast.specs.declared.leaf.LookAroundAssertionKind.TheVariants.{Lookahead, NegativeLookahead, Lookbehind, NegativeLookbehind}
-use Rattle.rx_ast.specs.declared.leaf.CharacterClassEscapeKind.{CharacterClassEscapeKind}
-use Rattle.rx_ast.specs.declared.leaf.CharacterClassEscapeKind.TheVariants.{D, NegativeD, S, NegativeS, W, NegativeW}
 use Rattle.rx_ast.specs.declared.leaf.Modifiers.{Modifiers}
-use Rattle.rx_ast.specs.declared.class.CharacterClassContentsKind.{CharacterClassContentsKind}
-use Rattle.rx_ast.specs.declared.class.CharacterClassContentsKind.TheVariants.{Union, Intersection, Subtraction}
 use Rattle.rx_ast.specs.ClassTree as in_class
 use Rattle.rx_ast.specs.Tree.{Nodes}
 use Rattle.rx_ast.specs.Kinds.{Kind, pattern, disjunction, alternative, term, look_around, quantifier, capturing_group, ignore_group, boundary_assertion, character, dot, class_escape, property_escape, class, class_contents, class_range, string_disjunction, class_string, indexed_reference, named_reference, children, order}
 use Rattle.rx_ast.specs.Forget.{nowhere}
+use Rattle.rx_kinds.specs.Codes.{boundary_code, class_escape_code, contents_code, look_code}
 
 abbrev pub bit : Bool → ℕ
 bit true = 1
 bit false = 0
-
-abbrev pub boundary_number : BoundaryAssertionKind → ℕ
-boundary_number boundary.Start = 0
-boundary_number boundary.End = 1
-boundary_number boundary.Boundary = 2
-boundary_number boundary.NegativeBoundary = 3
-boundary_number boundary.StartBuffer = 4
-boundary_number boundary.EndBuffer = 5
-boundary_number boundary.EndBufferOptionalNewline = 6
-
-abbrev pub look_number : LookAroundAssertionKind → ℕ
-look_number Lookahead = 0
-look_number NegativeLookahead = 1
-look_number Lookbehind = 2
-look_number NegativeLookbehind = 3
-
-abbrev pub escape_number : CharacterClassEscapeKind → ℕ
-escape_number D = 0
-escape_number NegativeD = 1
-escape_number S = 2
-escape_number NegativeS = 3
-escape_number W = 4
-escape_number NegativeW = 5
-
-abbrev pub contents_number : CharacterClassContentsKind → ℕ
-contents_number Union = 0
-contents_number Intersection = 1
-contents_number Subtraction = 2
 
 abbrev pub max_numbers : Option ℕ → List ℕ
 max_numbers None = 0 ∷ []
@@ -72,16 +37,16 @@ own_numbers (pattern p) = 0 ∷ []
 own_numbers (disjunction d) = 1 ∷ []
 own_numbers (alternative a) = 2 ∷ []
 own_numbers (term n) = 3 ∷ []
-own_numbers (look_around s kind d) = 4 ∷ look_number kind ∷ []
+own_numbers (look_around s kind d) = 4 ∷ look_code kind ∷ []
 own_numbers (quantifier s min max greedy n) = 5 ∷ min ∷ bit greedy ∷ max_numbers max
 own_numbers (capturing_group s name d) = 6 ∷ optional_name_numbers name
 own_numbers (ignore_group s modifiers d) = 7 ∷ modifiers_numbers modifiers
-own_numbers (boundary_assertion b) = 8 ∷ boundary_number b.kind ∷ []
+own_numbers (boundary_assertion b) = 8 ∷ boundary_code b.kind ∷ []
 own_numbers (character c) = 9 ∷ c.value ∷ []
 own_numbers (dot d) = 10 ∷ []
-own_numbers (class_escape e) = 11 ∷ escape_number e.kind ∷ []
+own_numbers (class_escape e) = 11 ∷ class_escape_code e.kind ∷ []
 own_numbers (property_escape p) = 12 ∷ bit p.negative ∷ bit p.strings ∷ (name_numbers p.name ++ optional_name_numbers p.value)
-own_numbers (class (in_class.class s negative strings kind ms)) = 13 ∷ bit negative ∷ bit strings ∷ contents_number kind ∷ []
+own_numbers (class (in_class.class s negative strings kind ms)) = 13 ∷ bit negative ∷ bit strings ∷ contents_code kind ∷ []
 own_numbers (class_contents m) = 14 ∷ []
 own_numbers (class_range r) = 15 ∷ []
 own_numbers (string_disjunction d) = 16 ∷ bit d.strings ∷ []

@@ -1,7 +1,7 @@
-use crate::numbers::escape_number;
 use crate::ranges::Ranges;
 use rx_ast::{Character, CharacterClassContents, CharacterClassEscape, CharacterClassRange};
 use rx_base::OutOfMemory;
+use rx_kinds::class_escape_code;
 use std::alloc::Global;
 use std::collections::BTreeSet;
 
@@ -66,7 +66,7 @@ impl Items {
     fn add_escape(&mut self, it: &CharacterClassEscape) -> Result<bool, OutOfMemory>
         ensures { IfOk result (λ useless. (before : Sequence Member) → AreItems self.old before → (useless ≡ is_useless (escape it.now) before) × AreItems self.new (before ++ escape it.now ∷ [])) }
     {
-        let is_new = self.escapes.insert(escape_number(it.kind))?;
+        let is_new = self.escapes.insert(class_escape_code(it.kind))?;
         Ok(!is_new)
     }
 }

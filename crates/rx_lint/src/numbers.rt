@@ -4,70 +4,19 @@ ghost use Rattle.std.specs.Str.{chars};
 ghost use Rattle.rx_ast.specs.ClassTree.{mirror_class};
 ghost use Rattle.rx_ast.specs.Kinds.{property_escape, class as class_kind};
 ghost use Rattle.rx_ast.specs.MirrorKinds.{mirror_kind, quantifier_kind};
-ghost use Rattle.rx_visit.specs.Siblings.{in_order};
 ghost use Rattle.rx_lint.specs.Rows.{AreNumbered};
-ghost use Rattle.rx_lint.specs.Numbers.{bit, boundary_number, look_number, escape_number, contents_number, max_numbers, name_numbers, optional_name_numbers, modifiers_numbers, own_numbers, node_numbers};
+ghost use Rattle.rx_lint.specs.Numbers.{bit, max_numbers, name_numbers, optional_name_numbers, modifiers_numbers, own_numbers, node_numbers};
 
-use rx_ast::{
-    BoundaryAssertionKind, CharacterClass, CharacterClassContentsKind, CharacterClassEscapeKind,
-    LookAroundAssertionKind, Modifiers, Quantifier, RegExpAstKind, UnicodePropertyEscape,
-};
+use rx_ast::{CharacterClass, Modifiers, Quantifier, RegExpAstKind, UnicodePropertyEscape};
 use rx_base::{List, OutOfMemory, Text};
-use rx_visit::{Siblings, children_of};
+use rx_kinds::{boundary_code, class_escape_code, contents_code, count, look_code};
+use rx_visit::children_of;
 use std::alloc::Global;
 
 fn bit(value: bool) -> u64
     ensures { result ≡ bit value }
 {
     if value { 1 } else { 0 }
-}
-
-fn boundary_number(kind: BoundaryAssertionKind) -> u64
-    ensures { result ≡ boundary_number kind }
-{
-    match kind {
-        BoundaryAssertionKind::Start => 0,
-        BoundaryAssertionKind::End => 1,
-        BoundaryAssertionKind::Boundary => 2,
-        BoundaryAssertionKind::NegativeBoundary => 3,
-        BoundaryAssertionKind::StartBuffer => 4,
-        BoundaryAssertionKind::EndBuffer => 5,
-        BoundaryAssertionKind::EndBufferOptionalNewline => 6,
-    }
-}
-
-fn look_number(kind: LookAroundAssertionKind) -> u64
-    ensures { result ≡ look_number kind }
-{
-    match kind {
-        LookAroundAssertionKind::Lookahead => 0,
-        LookAroundAssertionKind::NegativeLookahead => 1,
-        LookAroundAssertionKind::Lookbehind => 2,
-        LookAroundAssertionKind::NegativeLookbehind => 3,
-    }
-}
-
-pub(crate) fn escape_number(kind: CharacterClassEscapeKind) -> u8
-    ensures { result ≡ escape_number kind }
-{
-    match kind {
-        CharacterClassEscapeKind::D => 0,
-        CharacterClassEscapeKind::NegativeD => 1,
-        CharacterClassEscapeKind::S => 2,
-        CharacterClassEscapeKind::NegativeS => 3,
-        CharacterClassEscapeKind::W => 4,
-        CharacterClassEscapeKind::NegativeW => 5,
-    }
-}
-
-fn contents_number(kind: CharacterClassContentsKind) -> u64
-    ensures { result ≡ contents_number kind }
-{
-    match kind {
-        CharacterClassContentsKind::Union => 0,
-        CharacterClassContentsKind::Intersection => 1,
-        CharacterClassContentsKind::Subtraction => 2,
-    }
 }
 
 fn push_max(numbers: &mut List<u64>, max: Option<u64>) -> Result<(), OutOfMemory>
@@ -147,7 +96,7 @@ fn push_class(numbers: &mut List<u64>, class: &CharacterClass) -> Result<(), Out
     numbers.push(13)?;
     numbers.push(bit(class.negative))?;
     numbers.push(bit(class.strings))?;
-    numbers.push(contents_number(class.kind))
+    numbers.push(u64::from(contents_code(class.kind)))
 }
 
 /// Two numbers.
@@ -156,6 +105,13 @@ fn push_both(numbers: &mut List<u64>, first: u64, second: u64) -> Result<(), Out
 {
     numbers.push(first)?;
     numbers.push(second)
+}
+
+/// A number, and that of a kind.
+fn push_kind(numbers: &mut List<u64>, first: u64, kind: u8) -> Result<(), OutOfMemory>
+    ensures { OnOk result (numbers.new ≡ numbers.old ++ first ∷ kind ∷ []) }
+{
+    push_both(numbers, first, u64::from(kind))
 }
 
 /// What is compared of a node itself.
@@ -167,7 +123,7 @@ fn push_own(numbers: &mut List<u64>, node: RegExpAstKind<'_>) -> Result<(), OutO
         RegExpAstKind::Disjunction(_) => numbers.push(1),
         RegExpAstKind::Alternative(_) => numbers.push(2),
         RegExpAstKind::Term(_) => numbers.push(3),
-        RegExpAstKind::LookAroundAssertion(it) => push_both(numbers, 4, look_number(it.kind)),
+        RegExpAstKind::LookAroundAssertion(it) => push_kind(numbers, 4, look_code(it.kind)),
         RegExpAstKind::Quantifier(it) => push_quantifier(numbers, it),
         RegExpAstKind::CapturingGroup(it) => {
             numbers.push(6)?;
@@ -177,12 +133,14 @@ fn push_own(numbers: &mut List<u64>, node: RegExpAstKind<'_>) -> Result<(), OutO
             numbers.push(7)?;
             push_modifiers(numbers, &it.modifiers)
         }
-        RegExpAstKind::BoundaryAssertion(it) => push_both(numbers, 8, boundary_number(it.kind)),
+        RegExpAstKind::BoundaryAssertion(it) => push_kind(numbers, 8, boundary_code(it.kind)),
         RegExpAstKind::Character(it) => push_both(numbers, 9, u64::from(it.value)),
         RegExpAstKind::Dot(_) => numbers.push(10),
-        RegExpAstKind::CharacterClassEscape(it) => {
-            push_both(numbers, 11, u64::from(escape_number(it.kind)))
-        }
+        RegExpAstKind::CharacterClassEscape(it) => push_kind(
+            numbers,
+            11,
+            class_escape_code(it.kind),
+        ),
         RegExpAstKind::UnicodePropertyEscape(it) => push_property(numbers, it),
         RegExpAstKind::CharacterClass(it) => push_class(numbers, it),
         RegExpAstKind::CharacterClassContents(_) => numbers.push(14),
@@ -196,22 +154,6 @@ fn push_own(numbers: &mut List<u64>, node: RegExpAstKind<'_>) -> Result<(), OutO
             numbers.push(19)?;
             push_name(numbers, it.name.as_str())
         }
-    }
-}
-
-/// How many nodes stand one after the other.
-pub(crate) fn count(siblings: Siblings<'_>) -> usize
-    ensures { result ≡ length (in_order siblings.entry) }
-{
-    match siblings {
-        Siblings::Nothing => 0,
-        Siblings::Node(_) => 1,
-        Siblings::Alternatives(alternatives) => alternatives.len(),
-        Siblings::Terms(terms) => terms.len(),
-        Siblings::Contents(contents) => contents.len(),
-        Siblings::Ends(_) => 2,
-        Siblings::Strings(strings) => strings.len(),
-        Siblings::Characters(characters) => characters.len(),
     }
 }
 

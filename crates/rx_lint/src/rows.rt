@@ -1,8 +1,9 @@
 ghost use Rattle.std.specs.Prelude.{◌≡◌, ◌≤◌, IfOk, drop, length, map, reverse, take};
 ghost use Rattle.rx_lint.specs.Rows.{AreNumbered, first_length, kind_of, rows_of};
 
-use crate::numbers::{Beginning, count};
+use crate::numbers::Beginning;
 use rx_base::{List, OutOfMemory};
+use rx_kinds::count;
 use rx_visit::children_of;
 use std::alloc::Global;
 

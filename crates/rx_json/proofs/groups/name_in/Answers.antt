@@ -1,4 +1,4 @@
-use Rattle.std.proofs.Common.{◌≡◌, sym}
+use Rattle.std.proofs.Common.{sym}
 use Rattle.rx_json.proofs.GroupsTold.{no_name}
 use Rattle.rx_json.proofs.groups.name_in.Goals as goal
 

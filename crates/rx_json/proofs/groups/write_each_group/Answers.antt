@@ -1,4 +1,4 @@
-use Rattle.std.proofs.Common.{◌≡◌, ◌∙◌, ◌+◌, ap, sym, ℕ, List, ◌∷◌, ◌++◌, drop, map, arith}
+use Rattle.std.proofs.Common.{◌∙◌, ◌+◌, ap, sym, ℕ, List, ◌∷◌, ◌++◌, drop, map, arith}
 use Rattle.std.proofs.lemmas.List.{at_drop_all, at_drop_more}
 use Rattle.json.specs.Token.{Token}
 use Rattle.rx_base.specs.declared.span.Span.{Span}

@@ -1,8 +1,6 @@
-use Rattle.std.proofs.Common.{◌≡◌, ◌∙◌, ap, subst, List, [], ◌∷◌, codes, map}
-use Rattle.json.specs.Json.{Json}
-use Rattle.rx_ast.specs.Kinds.{Kind, order, pattern as pattern_kind}
+use Rattle.std.proofs.Common.{◌∙◌, ap, subst, List, [], ◌∷◌, codes, map}
+use Rattle.rx_ast.specs.Kinds.{Kind}
 use Rattle.rx_ast.specs.MirrorKinds.{mirror_kind}
-use Rattle.rx_ast.specs.Tree.{mirror}
 use Rattle.rx_json.specs.Adding.{Adds}
 use Rattle.rx_json.specs.Groups.{groups_fields, groups_of, names_of, once_after}
 use Rattle.rx_json.specs.Located.{located}

@@ -1,6 +1,5 @@
-use Rattle.std.proofs.Common.{◌≡◌, sym, subst, ◌∙◌, ℕ, List, []}
+use Rattle.std.proofs.Common.{sym, subst, List}
 use Rattle.json.specs.Json.{Json}
-use Rattle.rx_ast.specs.MirrorKinds.{mirror_kind}
 use Rattle.rx_json.specs.Adding.{Adds}
 use Rattle.rx_json.specs.Located.{located}
 use Rattle.rx_json.specs.Values.{value_tokens}

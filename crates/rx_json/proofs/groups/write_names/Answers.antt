@@ -1,9 +1,9 @@
-use Rattle.std.proofs.Common.{◌≡◌, ◌∙◌, ◌+◌, ap, sym, subst, List, [], ◌∷◌, drop, map}
+use Rattle.std.proofs.Common.{◌∙◌, ◌+◌, ap, sym, subst, List, [], ◌∷◌, drop, map}
 use Rattle.std.proofs.lemmas.List.{at_drop_all, at_drop_more}
 use Rattle.rx_ast.specs.declared.ast_kind.RegExpAstKind.{RegExpAstKind}
 use Rattle.rx_ast.specs.Kinds.{Kind}
 use Rattle.rx_ast.specs.MirrorKinds.{mirror_kind}
-use Rattle.rx_json.specs.Values.{borrowed}
+use Rattle.std.specs.Option.{option_copied}
 use Rattle.rx_json.proofs.Adding.{adds_one}
 use Rattle.rx_json.proofs.GroupsTold.{Telling, names_left, telling_again, telling_is, telling_new, telling_none, unchanged, was_missing, was_there}
 use Rattle.rx_json.proofs.Names.{names_none}
@@ -27,17 +27,17 @@ loop-node-preserved c =
     elim c.match-found.branch [
       | in-Some+in_ok-insert-in-Some+then-branch+in_ok-string-in-Some w ↦
           let name = w.in-Some.name in
-          let some = sym c.name_in-found.ensures ∙ ap borrowed w.in-Some.is in
+          let some = sym c.name_in-found.ensures ∙ ap option_copied w.in-Some.is in
           telling_is all ks w.writer-is w.names-is
           (telling_new _ _ _ _ _ all k ks w.as_str.result name.now some w.as_str.ensures w.as_str.utf8 (was_missing _ _ w.in_ok-insert-in-Some.ensures.added w.if-branch.true) w.in_ok-insert-in-Some.ensures.updates
           (text_added name.now w.as_str-then-branch.utf8 w.as_str-then-branch.ensures (adds_one w.in_ok-string-in-Some.ensures)) so_far)
       | in-Some+in_ok-insert-in-Some+else-branch w ↦
           let name = w.in-Some.name in
-          let some = sym c.name_in-found.ensures ∙ ap borrowed w.in-Some.is in
+          let some = sym c.name_in-found.ensures ∙ ap option_copied w.in-Some.is in
           telling_is all ks w.writer-is w.names-is
           (telling_again _ _ _ _ all k ks w.as_str.result name.now some w.as_str.ensures w.as_str.utf8 (was_there _ _ w.in_ok-insert-in-Some.ensures.added w.if-branch.false) (unchanged _ _ w.if-branch.false w.in_ok-insert-in-Some.ensures.unchanged) so_far)
       | in-None w ↦
-          telling_is all ks w.writer-is w.names-is (telling_none _ _ _ all k ks (sym c.name_in-found.ensures ∙ ap borrowed w.in-None.is) so_far)
+          telling_is all ks w.writer-is w.names-is (telling_none _ _ _ all k ks (sym c.name_in-found.ensures ∙ ap option_copied w.in-None.is) so_far)
     ]
 
 pub returns : goal.returns

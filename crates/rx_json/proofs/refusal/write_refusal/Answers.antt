@@ -1,11 +1,14 @@
-use Rattle.std.proofs.Common.{◌≡◌, ap, subst, ℕ, List, [], ◌∷◌, Option, OnOk, codes}
+use Rattle.std.proofs.Common.{ap, subst, ℕ, List, [], ◌∷◌, Option, OnOk, codes}
 use Rattle.std.specs.Str.{chars}
 use Rattle.json.specs.Json.{Json, string}
 use Rattle.rx_base.specs.Diagnostic.{name_of}
 use Rattle.rx_base.specs.DiagnosticMessage.{message_of}
 use Rattle.rx_json.specs.Adding.{Adds}
-use Rattle.rx_json.specs.Places.{place_fields}
-use Rattle.rx_json.specs.Refusals.{field_name, help_at, kind_of, spans_of, values_of}
+use Rattle.rx_json.specs.Located.{place_fields}
+use Rattle.rx_refusal.specs.Fields.{field_name}
+use Rattle.rx_refusal.specs.Helps.{help_at}
+use Rattle.rx_refusal.specs.Kinds.{kind_of}
+use Rattle.rx_json.specs.Refusals.{spans_of, values_of}
 use Rattle.rx_json.specs.Values.{Field, bytes_or_null, field_tokens, object_of, text}
 use Rattle.rx_json.proofs.Adding.{adds_one}
 use Rattle.rx_json.proofs.Parts.{field_is, fields_added, fields_last, member_added, object_added}

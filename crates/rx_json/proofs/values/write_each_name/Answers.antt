@@ -1,4 +1,4 @@
-use Rattle.std.proofs.Common.{◌≡◌, ◌∙◌, ◌+◌, ap, sym, ℕ, List, ◌∷◌, drop, map}
+use Rattle.std.proofs.Common.{◌∙◌, ◌+◌, ap, sym, ℕ, List, ◌∷◌, drop, map}
 use Rattle.std.proofs.lemmas.List.{at_drop_all, at_drop_more}
 use Rattle.json.specs.Token.{Token}
 use Rattle.json.specs.Tree.{json_tokens}

@@ -1,7 +1,3 @@
-use Rattle.std.proofs.Common.{◌≡◌, ◌∷◌, [], subst, codes, ℕ, List}
-use Rattle.json.specs.Json.{string}
-use Rattle.rx_json.specs.Adding.{Adds}
-use Rattle.rx_json.specs.Values.{field_tokens}
 use Rattle.rx_parser.specs.Inputs as parser
 use Rattle.rx_json_reply.proofs.Told.{all_told}
 use Rattle.rx_json_reply.proofs.answer.write_read.Goals as goal

@@ -1,4 +1,4 @@
-use Rattle.std.proofs.Common.{◌≡◌, subst, codes, ◌++◌, List, Result, Ok, Err, false}
+use Rattle.std.proofs.Common.{subst, codes, ◌++◌, List, Ok, Err}
 use Rattle.std.specs.Prelude.{MatchResult, ⊤}
 use Rattle.json.specs.Json as json
 use Rattle.json.specs.Tree.{HasNumbers}

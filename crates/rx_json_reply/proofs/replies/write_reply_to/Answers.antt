@@ -1,4 +1,4 @@
-use Rattle.std.proofs.Common.{◌≡◌, sym, subst, codes, ◌++◌, ◌∷◌, List, Bool, Ok, Err, false}
+use Rattle.std.proofs.Common.{sym, subst, codes, ◌++◌, ◌∷◌, List, false}
 use Rattle.std.proofs.lemmas.Result.{IfOk-weaker}
 use Rattle.json.specs.Json.{Json}
 use Rattle.json.specs.Token.{begin_object}
@@ -8,7 +8,7 @@ use Rattle.rx_json.specs.Values.{Field, field_tokens, object_of}
 use Rattle.rx_json_reply.specs.Answers.{IsAnswer, IsAnswerTo, answered, bad_json, no_request}
 use Rattle.rx_json_reply.specs.Begun.{id_json}
 use Rattle.rx_json_reply.specs.Parts.{bad_fields, begun}
-use Rattle.rx_json_reply.specs.Requests.{Asked, asked_of, id_of}
+use Rattle.rx_json_reply.specs.Requests.{asked_of}
 use Rattle.rx_json_reply.specs.Wrongs.{wrong_of}
 use Rattle.rx_json_reply.proofs.Ids.{id_is, id_numbers}
 use Rattle.rx_json_reply.proofs.replies.write_reply_to.Goals as goal

@@ -1,15 +1,16 @@
-use Rattle.std.proofs.Common.{◌≡◌, ◌∷◌, [], ◌++◌, sym, subst, codes, encode_utf8_all, List}
+use Rattle.std.proofs.Common.{◌∷◌, [], ◌++◌, sym, subst, codes, encode_utf8_all, List}
 use Rattle.json.specs.Json.{Json}
 use Rattle.json.specs.Token.{Token, begin_array, end_array, key}
 use Rattle.rx_ast.specs.Kinds.{order, pattern as pattern_kind}
 use Rattle.rx_ast.specs.Tree.{mirror}
 use Rattle.rx_command.specs.Features.{has_feature}
 use Rattle.rx_parser.specs.Inputs.{input_of}
-use Rattle.rx_json.specs.declared.refusal.Field.TheVariants.{Flags}
+use Rattle.rx_refusal.specs.declared.field.Field.TheVariants.{Flags}
 use Rattle.rx_json.specs.Adding.{Adds}
 use Rattle.rx_json.specs.Values.{value_tokens}
 use Rattle.rx_json.proofs.Adding.{adds_one, adds_then}
-use Rattle.rx_json_reply.specs.Parts.{needed_among, text_in}
+use Rattle.rx_refusal.specs.Fields.{text_in}
+use Rattle.rx_json_reply.specs.Parts.{needed_among}
 use Rattle.rx_json_reply.specs.Wants.{features}
 use Rattle.rx_json_reply.proofs.Joining.{list_field}
 use Rattle.rx_json_reply.proofs.unsupported.write_list.Goals as goal

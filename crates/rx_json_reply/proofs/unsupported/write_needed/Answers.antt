@@ -3,8 +3,8 @@ use Rattle.rx_ast.specs.Kinds.{order, pattern as pattern_kind}
 use Rattle.rx_ast.specs.Tree.{mirror}
 use Rattle.rx_command.specs.Features.{has_feature}
 use Rattle.rx_parser.specs.Inputs.{input_of}
-use Rattle.rx_json.specs.declared.refusal.Field.TheVariants.{Flags}
-use Rattle.rx_json_reply.specs.Parts.{text_in}
+use Rattle.rx_refusal.specs.declared.field.Field.TheVariants.{Flags}
+use Rattle.rx_refusal.specs.Fields.{text_in}
 use Rattle.rx_json_reply.proofs.Told.{needed_step}
 use Rattle.rx_json_reply.proofs.unsupported.write_needed.Goals as goal
 

@@ -1,0 +1,3 @@
+pub mod FlagText
+pub mod Spoiling
+pub mod Refused

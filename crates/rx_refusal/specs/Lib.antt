@@ -1,0 +1,4 @@
+pub mod Kinds
+pub mod Values
+pub mod Helps
+pub mod Fields
