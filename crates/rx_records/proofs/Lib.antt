@@ -1,0 +1,10 @@
+pub mod Groups
+pub mod Linked
+pub mod Made
+pub mod Named
+pub mod Nodes
+pub mod OwnRecords
+pub mod Rows
+pub mod SameKinds
+pub mod SameRecords
+pub mod Texts
