@@ -13,8 +13,8 @@ import { fileURLToPath } from "node:url";
 const BINDINGS = fileURLToPath(new URL("..", import.meta.url));
 const KINDS = { ".html": "text/html", ".css": "text/css", ".js": "text/javascript", ".wasm": "application/wasm" };
 const CONTRAST = 4.5; // WCAG 2, level AA
-const TYPED = 300;
-const ANSWERED = 1000;
+const TYPED = 500;
+const ANSWERED = 2500;
 const WIDE = { width: 1280, height: 900 };
 const NARROW = { width: 360, height: 740 };
 
