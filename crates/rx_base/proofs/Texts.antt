@@ -1,9 +1,9 @@
 -- The characters of a text that grew.
 use Rattle.std.proofs.Common.{◌≡◌, ◌<◌, refl, ap, sym, ◌∙◌, ℕ, List, [], ◌∷◌, ◌++◌, true, arith, length}
-use Rattle.std.specs.Str.{chars, IsUtf8}
+use Rattle.std.specs.Str.{chars, IsAscii, IsUtf8}
 use Rattle.std.proofs.Math.Utf8.{encode, scalar}
 use Rattle.std.proofs.lemmas.List.{append-nil}
-use Rattle.std.proofs.lemmas.Str.{chars-append, chars-encodes, encodes-append, encodes-chars, length-encode}
+use Rattle.std.proofs.lemmas.Str.{chars-append, chars-encodes, encodes-append, encodes-chars, length-encode, IsUtf8-from_ascii}
 use Rattle.std.specs.Char.{encode_utf8, len_utf8}
 use Rattle.std.specs.Str.{encode_utf8_all}
 
@@ -32,3 +32,7 @@ encodes_pushed old new c grown = ap encode_utf8_all grown ∙ encodes-append old
 -- a character has some bytes
 pub bytes_of_one : (c : ℕ) → 0 < length (encode_utf8 c)
 bytes_of_one c = grind (arith, length-encode, len_utf8)
+
+-- ASCII is a text
+pub ascii_text : (bytes : List ℕ) → IsAscii bytes → IsUtf8 bytes
+ascii_text = IsUtf8-from_ascii

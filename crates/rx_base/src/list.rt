@@ -109,6 +109,17 @@ impl<T> List<T> {
 }
 
 impl<T: Drop> List<T> {
+    /// Takes all items out, into a list with memory for them alone. The memory of this list stays for more. After an error it is as it was.
+    #[inline]
+    pub fn take_all(&mut self) -> Result<List<T>, OutOfMemory>
+        ensures taken { IfOk result (λ it. it ≡ self.old) }
+        ensures ok { OnOk result (self.new ≡ []) }
+        ensures err { OnErr result (self.new ≡ self.old) }
+    {
+        let items = self.items.split_off(0)?;
+        Ok(List { items })
+    }
+
     /// Takes memory for this many more items at once, unless there is enough already.
     pub fn reserve(&mut self, additional: usize) -> Result<(), OutOfMemory>
         ensures { self.new ≡ self.old }
@@ -118,6 +129,7 @@ impl<T: Drop> List<T> {
     }
 
     /// Adds an item at the end. After an error the list is as it was.
+    #[inline]
     pub fn push(&mut self, item: T) -> Result<(), OutOfMemory>
         ensures ok { OnOk result (self.new ≡ self.old ++ item ∷ []) }
         ensures err { OnErr result (self.new ≡ self.old) }

@@ -1,5 +1,6 @@
 ghost use Rattle.std.specs.Prelude.{ℕ, List as Sequence, [], Option};
 ghost use Rattle.std.specs.Char.{encode_utf8};
+ghost use Rattle.std.specs.Str.{IsAscii};
 ghost use Rattle.rx_base.specs.Writing.{Written};
 
 use crate::{Failed, List, OutOfMemory, Sink, Text, write_all};
@@ -22,6 +23,11 @@ pub trait TextSink {
     /// Writes a character. After `Failed` at least one of its bytes is missing.
     fn write_char(&mut self, c: char) -> Result<(), Failed>
         ensures { Written taken fixed faults self.old self.new result (encode_utf8 c) };
+
+    /// Writes ASCII characters. After `Failed` at least one of them is missing.
+    fn write_ascii(&mut self, bytes: &[u8]) -> Result<(), Failed>
+        requires { IsAscii bytes.now }
+        ensures { Written taken fixed faults self.old self.new result bytes.now };
 }
 
 impl<K: Sink> TextSink for K {
@@ -38,6 +44,10 @@ impl<K: Sink> TextSink for K {
     fn write_char(&mut self, c: char) -> Result<(), Failed> {
         let mut buffer = [0; 4];
         write_all(self, c.encode_utf8(&mut buffer).as_bytes())
+    }
+
+    fn write_ascii(&mut self, bytes: &[u8]) -> Result<(), Failed> {
+        write_all(self, bytes)
     }
 }
 
@@ -72,6 +82,17 @@ impl TextSink for List<u8> {
             Err(OutOfMemory) => Err(Failed),
         }
     }
+
+    #[inline]
+    fn write_ascii(&mut self, bytes: &[u8]) -> Result<(), Failed> {
+        if bytes.is_empty() {
+            return Ok(());
+        }
+        match self.extend_from_slice(bytes) {
+            Ok(()) => Ok(()),
+            Err(OutOfMemory) => Err(Failed),
+        }
+    }
 }
 
 impl TextSink for Text {
@@ -98,5 +119,10 @@ impl TextSink for Text {
             Ok(()) => Ok(()),
             Err(OutOfMemory) => Err(Failed),
         }
+    }
+
+    #[tactic(auto, using(crate::proofs::Texts::ascii_text))]
+    fn write_ascii(&mut self, bytes: &[u8]) -> Result<(), Failed> {
+        self.write_str(str::from_utf8(bytes).unwrap())
     }
 }

@@ -35,8 +35,11 @@ fn list_keeps_what_was_pushed(rt: HostRuntime) -> Result<(), Fail> {
     let mut bytes = list_of(rt.alloc(), b"ab")?;
     bytes.extend_from_slice(b"cd")?;
     assert_eq!(rt; bytes.as_slice(), b"abcd".as_slice());
-    bytes.clear();
+    let mut taken = bytes.take_all()?;
+    assert_eq!(rt; taken.as_slice(), b"abcd".as_slice());
     assert_eq!(rt; bytes.len(), 0);
+    taken.clear();
+    assert_eq!(rt; taken.len(), 0);
     Ok(())
 }
 

@@ -8,6 +8,7 @@ use rx_tables::{
     is_unicode_id_start, is_unicode_property_name_character, is_unicode_property_value_character,
     is_valid_lone_unicode_property, is_valid_lone_unicode_property_of_strings, is_valid_unicode,
     is_valid_unicode_property, map_c_ascii_letter, map_control_escape, map_hex_digit,
+    map_short_escape,
 };
 use std::alloc::Global;
 use std::test::Fail;
@@ -161,12 +162,13 @@ DFFF => true - - -
     agree(rt.alloc(), &PastAscii, rows)
 }
 
-/// The values as a control escape, as the letter of a control escape and as a hexadecimal digit.
+/// The values as a control escape, as the letter of a control escape, as a hexadecimal digit and as a short escape.
 fn maps(alloc: Global, code: u32) -> Result<String, Fail> {
     let escape = value(alloc, map_control_escape(code))?;
     let letter = value(alloc, map_c_ascii_letter(code))?;
     let digit = value(alloc, map_hex_digit(code))?;
-    Ok(format!(in alloc; "{escape} {letter} {digit}")?)
+    let short = value(alloc, map_short_escape(code))?;
+    Ok(format!(in alloc; "{escape} {letter} {digit} {short}")?)
 }
 
 fn value(alloc: Global, value: Option<u32>) -> Result<String, Fail> {
@@ -188,33 +190,49 @@ impl Call for MapsCall {
 
 #[test]
 fn maps_of_ascii(rt: HostRuntime) -> Result<(), Fail> {
-    let rows = "/ => - - -
-0 => - - 0
-9 => - - 9
-: => - - -
-@ => - - -
-A => - 1 10
-F => - 6 15
-G => - 7 -
-Z => - 26 -
-[ => - - -
-` => - - -
-a => - 1 10
-e => - 5 14
-f => 12 6 15
-g => - 7 -
-m => - 13 -
-n => 10 14 -
-o => - 15 -
-q => - 17 -
-r => 13 18 -
-s => - 19 -
-t => 9 20 -
-u => - 21 -
-v => 11 22 -
-w => - 23 -
-z => - 26 -
-{ => - - -";
+    let rows = "/ => - - - 47
+0 => - - 0 -
+9 => - - 9 -
+: => - - - -
+@ => - - - -
+A => - 1 10 -
+F => - 6 15 -
+G => - 7 - -
+Z => - 26 - -
+[ => - - - 91
+` => - - - -
+a => - 1 10 -
+e => - 5 14 -
+f => 12 6 15 12
+g => - 7 - -
+m => - 13 - -
+n => 10 14 - 10
+o => - 15 - -
+q => - 17 - -
+r => 13 18 - 13
+s => - 19 - -
+t => 9 20 - 9
+u => - 21 - -
+v => 11 22 - 11
+w => - 23 - -
+z => - 26 - -
+{ => - - - 123
+$ => - - - 36
+. => - - - 46
+? => - - - 63
+| => - - - 124
+} => - - - 125
+- => - - - -
+_ => - - - -
+, => - - - -
+é => - - - -
+~ => - - - -
+^ => - - - 94
+] => - - - 93
+* => - - - 42
++ => - - - 43
+) => - - - 41
+( => - - - 40";
     agree(rt.alloc(), &MapsCall, rows)
 }
 

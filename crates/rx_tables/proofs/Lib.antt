@@ -1,3 +1,4 @@
 pub mod Digits
 pub mod Separators
+pub mod Tables
 pub mod WordSearches

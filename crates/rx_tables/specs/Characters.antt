@@ -48,6 +48,10 @@ control_escape_value c =
     else (if c == ascii.f then Some ascii.form_feed
     else (if c == ascii.r then Some ascii.carriage_return else None))))
 
+-- the value of \ and a ControlEscape, a SyntaxCharacter or / (CharacterEscape and IdentityEscape of 22.2.1)
+abbrev pub short_escape_value : ℕ → Option ℕ
+short_escape_value c = if is_syntax_character c || c == ascii.slash then Some c else control_escape_value c
+
 -- the value of \c and an AsciiLetter (22.2.1)
 abbrev pub control_letter_value : ℕ → Option ℕ
 control_letter_value c = if is_ascii_letter c then Some (c % 32) else None

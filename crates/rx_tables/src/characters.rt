@@ -125,14 +125,53 @@ pub fn map_c_ascii_letter(cp: u32) -> Option<u32>
         .map(|_| cp % 32)
 }
 
+/// For each ASCII character the number of the hexadecimal digit that it is, or 255.
+static HEX_DIGITS: [u8; 128] = [
+    255, 255, 255, 255, 255, 255, 255, 255, 255, 255, 255, 255, 255, 255, 255, 255, //
+    255, 255, 255, 255, 255, 255, 255, 255, 255, 255, 255, 255, 255, 255, 255, 255, //
+    255, 255, 255, 255, 255, 255, 255, 255, 255, 255, 255, 255, 255, 255, 255, 255, //
+    0, 1, 2, 3, 4, 5, 6, 7, 8, 9, 255, 255, 255, 255, 255, 255, //
+    255, 10, 11, 12, 13, 14, 15, 255, 255, 255, 255, 255, 255, 255, 255, 255, //
+    255, 255, 255, 255, 255, 255, 255, 255, 255, 255, 255, 255, 255, 255, 255, 255, //
+    255, 10, 11, 12, 13, 14, 15, 255, 255, 255, 255, 255, 255, 255, 255, 255, //
+    255, 255, 255, 255, 255, 255, 255, 255, 255, 255, 255, 255, 255, 255, 255, 255, //
+];
+
+/// For each ASCII character what a backslash and it stand for, if it is a ControlEscape, a SyntaxCharacter or `/`, or 0.
+static SHORT_ESCAPES: [u8; 128] = [
+    0, 0, 0, 0, 0, 0, 0, 0, 0, 0, 0, 0, 0, 0, 0, 0, //
+    0, 0, 0, 0, 0, 0, 0, 0, 0, 0, 0, 0, 0, 0, 0, 0, //
+    0, 0, 0, 0, 36, 0, 0, 0, 40, 41, 42, 43, 0, 0, 46, 47, //
+    0, 0, 0, 0, 0, 0, 0, 0, 0, 0, 0, 0, 0, 0, 0, 63, //
+    0, 0, 0, 0, 0, 0, 0, 0, 0, 0, 0, 0, 0, 0, 0, 0, //
+    0, 0, 0, 0, 0, 0, 0, 0, 0, 0, 0, 91, 92, 93, 94, 0, //
+    0, 0, 0, 0, 0, 0, 12, 0, 0, 0, 0, 0, 0, 0, 10, 0, //
+    0, 0, 13, 0, 9, 0, 11, 0, 0, 0, 0, 123, 124, 125, 0, 0, //
+];
+
 /// The number of a hexadecimal digit of either case.
+#[inline]
+#[tactic(auto, using(crate::proofs::Tables::digit_at, crate::proofs::Tables::no_hex_digit_at))]
 pub fn map_hex_digit(cp: u32) -> Option<u32>
     ensures { result ≡ set.hex_digit_value cp }
 {
-    match cp {
-        0x30..=0x39 => Some(cp - 0x30),
-        0x41..=0x46 => Some(cp - 0x37),
-        0x61..=0x66 => Some(cp - 0x57),
-        _ => None,
+    if cp >= 128 {
+        return None;
     }
+    let digit = HEX_DIGITS[cp as usize];
+    if digit < 16 { Some(digit as u32) } else { None }
+}
+
+/// What a backslash and a ControlEscape, a SyntaxCharacter or `/` (ECMA-262, 22.2.1) stand for, from the value after the
+/// backslash. Any other value gives `None`.
+#[inline(always)]
+#[tactic(auto, using(crate::proofs::Tables::escape_at, crate::proofs::Tables::short_escape_at))]
+pub fn map_short_escape(cp: u32) -> Option<u32>
+    ensures { result ≡ set.short_escape_value cp }
+{
+    if cp >= 128 {
+        return None;
+    }
+    let value = SHORT_ESCAPES[cp as usize];
+    if value == 0 { None } else { Some(value as u32) }
 }
