@@ -1,7 +1,6 @@
 -- What holds of the units to which a quoted text is decoded: where they end, and how large their values are.
 use Rattle.std.proofs.Common.{◌≡◌, ℕ, ◌+◌, ◌<◌, ◌≤◌, Bool, true, false, ◌&&◌, ◌==◌, Option, Some, None, append-nil, List, [], ◌∷◌, ◌++◌, length, refl, sym, ap, ◌∙◌, subst, arith, append_assoc, length-append}
-use Rattle.std.proofs.Math.Seq.{drop-append_seam}
-use Rattle.std.proofs.lemmas.List.Elements.{All-append, All-drop, All-nil, All-tail}
+use Rattle.std.proofs.lemmas.List.Elements.{All-append, All-nil, All-tail}
 use Rattle.std.proofs.lemmas.Str.{IsCharBoundary-at_seam, chars-encodes, encode_ascii, encodes-append, encodes-chars, scalars-chars}
 use Rattle.std.specs.Prelude.{All}
 use Rattle.std.specs.Str.{IsCharBoundary, IsUtf8, chars}
@@ -24,6 +23,7 @@ use Rattle.rx_units.specs.Units.{character_units, end_of}
 use Rattle.rx_units.proofs.CodePoints.{AreCodePoints, character_code_points, character_narrow}
 use Rattle.rx_units.proofs.Ends.{end_more, ends_more}
 use Rattle.rx_units.proofs.Quoted.Fronts.{spelled_front}
+use Rattle.rx_units.proofs.Quoted.Turns.{onward}
 use Rattle.rx_units.proofs.Quoted.Widths.{AreCharacters, byte_text, taken}
 use Rattle.rx_units.proofs.Quoted.Pairs.{all_joined, ends_joined, pair_small}
 use Rattle.rx_units.proofs.Choices.{both, either_way}
@@ -47,19 +47,17 @@ module _ (l : Literal) (o : Options) (P : CodePoint → Type 0) (each : (start e
   value_holds start end k None small = All-nil P
   value_holds start end k (Some value) small = each start end value k small
 
-  all_units : (inner : List ℕ) (p : Place) → AreCharacters inner → Leads l o (place_after_opening o inner) p → All P p.units × AreCharacters p.rest
-  all_units inner _ small no_element = (All-nil P, small)
+  all_units : (inner : List ℕ) (p : Place) → AreCharacters inner → Leads l o (place_after_opening o inner) p → All P p.units
+  all_units inner _ small no_element = All-nil P
   all_units inner _ small (one_more {p} e w rest a h s k) =
-      let before = all_units inner p small a in
-      let here : AreCharacters (w ++ rest) = subst AreCharacters h before.1 in
+      let here : AreCharacters (w ++ rest) = subst AreCharacters h ((onward a).characters small) in
       let value : e.value ≤ 0x10FFFF = (taken l (w ++ rest) e (length w) (spelled_front l e w rest s)).small here in
-      let end : ℕ = p.offset + byte_count w in (
-        All-append P p.units (element_units o p.offset end e) before.0 (value_holds p.offset end (kind_of e.writing) (given_value o.standard_strings e.writing e.value) (given_small o.standard_strings e.writing e.value value)),
-        subst AreCharacters (drop-append_seam w rest) (All-drop (λ c. c ≤ 0x10FFFF) (length w) (w ++ rest) here),
-      )
+      let end : ℕ = p.offset + byte_count w in
+      All-append P p.units (element_units o p.offset end e) (all_units inner p small a)
+      (value_holds p.offset end (kind_of e.writing) (given_value o.standard_strings e.writing e.value) (given_small o.standard_strings e.writing e.value value))
 
   reached_units : (text : List ℕ) (p : Place) → AreCharacters text → IsReached l o text p → All P p.units
-  reached_units text p small r = (all_units r.inner p (All-tail (λ c. c ≤ 0x10FFFF) (quote_of l) r.inner (subst AreCharacters r.opens small)) r.leads).0
+  reached_units text p small r = all_units r.inner p (All-tail (λ c. c ≤ 0x10FFFF) (quote_of l) r.inner (subst AreCharacters r.opens small)) r.leads
 
 -- They are code points.
 pub decoded_code_points : {standard joined : Bool} {text : List ℕ} {us : List CodePoint} → All (λ c. c ≤ 0x10FFFF) text → Decodes standard joined text us → AreCodePoints us

@@ -32,7 +32,7 @@ module _ (cs : List ℕ) (n c at : ℕ) (turn : (n < length cs) × (c ≡ get_or
       ∙ ap (λ xs. old ++ xs) (sym (units_turn joined)) ∙ h
 
 -- an ASCII character is one unit, joined or not
-ascii_unit : (joined : Bool) (start end c : ℕ) → c < 128 → character_units joined start end c kind.None ≡ unit start end c kind.None ∷ []
+pub ascii_unit : (joined : Bool) (start end c : ℕ) → c < 128 → character_units joined start end c kind.None ≡ unit start end c kind.None ∷ []
 ascii_unit true start end c h = refl
 ascii_unit false start end c h =
     ap (λ b. cond b (unit start end c kind.None ∷ []) (unit start end (lead_of c) kind.None ∷ unit start end (trail_of c) kind.None ∷ [])) (lt-ltb c 0x10000 (omega arith))

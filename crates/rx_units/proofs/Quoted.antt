@@ -10,6 +10,7 @@ pub mod Rows
 pub mod Widths
 pub mod Extents
 pub mod Turns
+pub mod Plain
 pub mod Pairs
 pub mod Outcomes
 pub mod TemplateFaults

@@ -13,7 +13,7 @@ ghost use Rattle.rx_units.specs.Quoted.Texts.{IsDecoded, byte_count};
 ghost use Rattle.rx_units.specs.Digits.{front_is};
 
 use crate::quoted_text::found::Found;
-use crate::quoted_text::reading::{Source, Stop, byte_count, elements, width};
+use crate::quoted_text::reading::{Source, Stop, elements, width};
 use crate::quoted_text::value::text_units;
 use crate::quoted_text::{Element, Literal, Writing};
 use crate::{CodePoint, Options};
@@ -144,7 +144,7 @@ fn decode_text(
     if !stop.is_end() {
         return Err(fault(&stop));
     }
-    let span = Span::new(start, start + byte_count(text));
+    let span = Span::new(start, stop.end());
     let body = text_units(alloc, stop.units, options)?;
     Ok(TemplateLiteral { span, body })
 }

@@ -1,6 +1,7 @@
 -- What stands where reading stops, against what is decoded and against the faults.
 use Rattle.std.proofs.Common.{◌≡◌, ℕ, ◌+◌, ◌==◌, Bool, true, false, ◌&&◌, ◌||◌, List, [], ◌∷◌, length, take, drop, refl, sym, ap, ◌∙◌, subst, arith, inl, inr}
 use Rattle.std.proofs.lemmas.Bool.{eqb-true}
+use Rattle.std.specs.Char.{len_utf8}
 use Rattle.rx_base.specs.declared.span.Span.{Span}
 use Rattle.rx_units.specs.declared.code_point.CodePoint.{CodePoint}
 use Rattle.rx_units.specs.declared.quoted_text.element.Element.{Element}
@@ -165,6 +166,11 @@ end_there l rest (read.invalid_hex n) h e = absurd (let no : ⊥ = cc e in no)
 end_there l rest (read.invalid_unicode n) h e = absurd (let no : ⊥ = cc e in no)
 end_there l rest (read.too_large n) h e = absurd (let no : ⊥ = cc e in no)
 
+quote_width : (l : Literal) → len_utf8 (quote_of l) ≡ 1
+quote_width (literals.String quotes.Double) = refl
+quote_width (literals.String quotes.Single) = refl
+quote_width literals.Template = refl
+
 module _ (l : Literal) (o : Options) (text inner : List ℕ) (stop : Stop) (opens : text ≡ quote_of l ∷ inner) (stops : IsStop l o inner stop) where
   -- where elements lead after an opening quote
   pub stop_reached : IsReached l o text (place stop.units stop.offset stop.rest.now)
@@ -183,12 +189,16 @@ module _ (l : Literal) (o : Options) (text inner : List ℕ) (stop : Stop) (open
     units_are = units_are;
   }
 
+  -- such a text ends after one more byte
+  pub ends_after : (is_closer (seen_front stop.found) && (length stop.rest.now == 1)) ≡ true → stop.offset + 1 ≡ o.span_offset + byte_count text
+  ends_after end = omega (arith, stops.bytes, ap byte_count opens, ap byte_count (end_there l stop.rest.now (seen_front stop.found) stops.found end), quote_width l)
+
 abbrev pub given : List ℕ → Options → Given
 given text o = record { text = text; options = o }
 
 -- a span that covers the text
-pub whole_span : (text : List ℕ) (o : Options) (span : Span) (count : ℕ) → span ≡ from_to o.span_offset (o.span_offset + count) → count ≡ byte_count text → span ≡ text_span (given text o)
-whole_span text o span count is counted = is ∙ ap (λ (n : ℕ). from_to o.span_offset (o.span_offset + n)) counted
+pub whole_span : (text : List ℕ) (o : Options) (span : Span) (end : ℕ) → span ≡ from_to o.span_offset end → end ≡ o.span_offset + byte_count text → span ≡ text_span (given text o)
+whole_span text o span end is ends = is ∙ ap (from_to o.span_offset) ends
 
 -- what a parser is given is what it holds
 pub given_decoded : (l : Literal) (o : Options) (text held : List ℕ) (g : Given) (us : List CodePoint) → text ≡ held → given held o ≡ g → IsDecoded l g.options g.text us → IsDecoded l o text us

@@ -1,13 +1,15 @@
--- One more element is read.
-use Rattle.std.proofs.Common.{◌≡◌, ℕ, ◌+◌, List, ◌++◌, take, drop, sym, subst}
+-- One more element is read, and what stays the same where elements lead on.
+use Rattle.std.proofs.Common.{◌≡◌, ℕ, ◌+◌, ◌≤◌, List, [], ◌∷◌, ◌++◌, length, take, drop, refl, sym, ap, subst, arith, length-append}
+use Rattle.std.proofs.Math.Seq.{drop-append_seam}
+use Rattle.std.proofs.lemmas.List.Elements.{All-drop}
 use Rattle.rx_units.specs.declared.code_point.CodePoint.{CodePoint}
 use Rattle.rx_units.specs.declared.quoted_text.element.Element.{Element}
 use Rattle.rx_units.specs.declared.quoted_text.literal.Literal.{Literal}
 use Rattle.rx_units.specs.declared.options.Options.{Options}
 use Rattle.rx_units.specs.Quoted.Fronts.{element, front}
 use Rattle.rx_units.specs.Quoted.Values.{element_units}
-use Rattle.rx_units.specs.Quoted.Texts.{Place, IsAllowed, Leads, one_more, byte_count}
-use Rattle.rx_units.proofs.Quoted.Widths.{taken}
+use Rattle.rx_units.specs.Quoted.Texts.{Place, IsAllowed, Leads, no_element, one_more, byte_count}
+use Rattle.rx_units.proofs.Quoted.Widths.{AreCharacters, taken}
 
 abbrev pub place : List CodePoint → ℕ → List ℕ → Place
 place us at rest = record { units = us; offset = at; rest = rest }
@@ -21,3 +23,30 @@ module _ (l : Literal) (o : Options) (from : Place) (us : List CodePoint) (at : 
       (subst (λ more. Leads l o from (place (us ++ element_units o at end e) end more)) (sym more_is)
       (subst (λ (end : ℕ). Leads l o from (place (us ++ element_units o at end e) end (drop n rest))) (sym end_is)
       (one_more e (take n rest) (drop n rest) lead t.whole t.spells k)))
+
+bytes_append : (w rest : List ℕ) → byte_count (w ++ rest) ≡ byte_count w + byte_count rest
+bytes_append [] rest = omega arith
+bytes_append (c ∷ w) rest = omega (arith, bytes_append w rest)
+
+-- what stays the same
+pub record IsOnward (from p : Place) : Type 0 where
+  pub bytes : p.offset + byte_count p.rest ≡ from.offset + byte_count from.rest
+  pub shorter : length p.rest ≤ length from.rest
+  pub characters : AreCharacters from.rest → AreCharacters p.rest
+
+module _ {l : Literal} {o : Options} where
+  pub onward : {from p : Place} → Leads l o from p → IsOnward from p
+  onward no_element = record {
+    bytes = refl;
+    shorter = omega arith;
+    characters = λ a. a;
+  }
+  onward (one_more {p} e w rest lead h s k) = let before = onward lead in record {
+    bytes = omega (arith, before.bytes, ap byte_count h, bytes_append w rest);
+    shorter = omega (arith, before.shorter, ap length h, length-append w rest);
+    characters = λ a. subst AreCharacters (drop-append_seam w rest) (All-drop (λ c. c ≤ 0x10FFFF) (length w) (w ++ rest) (subst AreCharacters h (before.characters a)));
+  }
+
+  pub lead_on : {from p q : Place} → Leads l o from p → Leads l o p q → Leads l o from q
+  lead_on lead no_element = lead
+  lead_on lead (one_more e w rest more h s k) = one_more e w rest (lead_on lead more) h s k

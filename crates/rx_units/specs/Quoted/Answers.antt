@@ -3,7 +3,7 @@ use Rattle.std.specs.Prelude.{◌≡◌, ℕ, ◌+◌, ◌<◌, ◌≤◌, ◌^�
 use Rattle.rx_base.specs.declared.span.Span.{Span}
 use Rattle.rx_units.specs.declared.quoted_text.element.Element.{Element}
 use Rattle.rx_units.specs.declared.quoted_text.element.Writing.{Writing}
-use Rattle.rx_units.specs.declared.quoted_text.element.Writing.TheVariants.{Legacy, NotEscape}
+use Rattle.rx_units.specs.declared.quoted_text.element.Writing.TheVariants.{Legacy, NotEscape, Plain}
 use Rattle.rx_units.specs.declared.quoted_text.literal.Literal.{Literal}
 use Rattle.rx_units.specs.declared.quoted_text.literal.Literal.TheVariants as literals
 use Rattle.rx_units.specs.declared.options.Options.{Options}
@@ -14,6 +14,7 @@ use Rattle.rx_units.specs.declared.string_literal_parser.StringLiteral.{StringLi
 use Rattle.rx_units.specs.declared.template_literal_parser.TemplateFault.{TemplateFault}
 use Rattle.rx_units.specs.declared.template_literal_parser.TemplateFault.TheVariants as template_fault
 use Rattle.rx_units.specs.declared.template_literal_parser.TemplateLiteral.{TemplateLiteral}
+use Rattle.rx_units.specs.Quoted.Elements.{written}
 use Rattle.rx_units.specs.Quoted.Faults.{empty_at, from_to}
 use Rattle.rx_units.specs.Quoted.Found.{seen_front}
 use Rattle.rx_units.specs.Quoted.Fronts.{Front, element, closer, nothing, substitution, invalid_hex, invalid_unicode, too_large, front}
@@ -30,6 +31,12 @@ pub record IsStop (literal : Literal) (o : Options) (inner : List ℕ) (stop : S
   pub found : seen_front stop.found ≡ front literal stop.rest.now
   pub ends : (e : Element) (n : ℕ) → front literal stop.rest.now ≡ element e n → is_refused o e.writing ≡ true
   pub bytes : stop.offset + byte_count stop.rest.now ≡ o.span_offset + 1 + byte_count inner
+
+-- In each kind of quotes the element of n characters that stands next gives a character of ASCII, and they are as many bytes.
+pub record IsPlainFront (c n : ℕ) (us : List ℕ) : Type 0 where
+  pub ascii : c < 128
+  pub found : (literal : Literal) → front literal us ≡ element (written c Plain) n
+  pub bytes : byte_count (take n us) ≡ n
 
 -- all of the text, with its quotes
 abbrev pub text_span : Given → Span

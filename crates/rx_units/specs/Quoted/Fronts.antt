@@ -1,6 +1,6 @@
 -- How a quoted text is read at a place, and an escape after its backslash: which element stands there, or why none does.
 -- What elements mean stands in Elements, and what else is wrong in Faults.
-use Rattle.std.specs.Prelude.{ℕ, ◌+◌, ◌*◌, ◌^◌, not, ◌==◌, ◌&&◌, ◌||◌, List, [], ◌∷◌, Option, Some, None, nat_le, nat_lt, if◌then◌else◌}
+use Rattle.std.specs.Prelude.{ℕ, Bool, ◌+◌, ◌*◌, ◌^◌, not, ◌==◌, ◌&&◌, ◌||◌, List, [], ◌∷◌, Option, Some, None, nat_le, nat_lt, if◌then◌else◌}
 use Rattle.rx_base.specs.Ascii as ascii
 use Rattle.rx_tables.specs.Characters.{hex_digit_value, is_octal_digit, is_decimal_digit}
 use Rattle.rx_units.specs.Characters.{is_line_terminator}
@@ -146,6 +146,11 @@ template_front (c ∷ w) =
     else (if c == ascii.backslash then template_escape (escape_at w) w
     else (if c == ascii.dollar_sign then (if front_is is_open_brace w then substitution else element (written c writing.Plain) 1)
     else (if is_line_terminator c then raw_line c w else element (written c writing.Plain) 1)))
+
+-- an ASCII character that stands for itself in each kind of quotes
+abbrev pub is_plain : ℕ → Bool
+is_plain c =
+    nat_lt c 128 && not (c == ascii.quotation_mark || c == ascii.apostrophe || c == ascii.grave_accent || c == ascii.dollar_sign || c == ascii.backslash || c == ascii.line_feed || c == ascii.carriage_return)
 
 unfoldable pub front : Literal → List ℕ → Front
 front (literals.String quotes.Double) us = string_front ascii.quotation_mark us

@@ -1,11 +1,13 @@
-ghost use Rattle.std.specs.Prelude.{◌≡◌, ◌+◌, ◌<◌, ◌≤◌, ◌^◌, ℕ, All, IfOk, MatchOption, true, length, take, drop, ◌==◌, ◌&&◌};
+ghost use Rattle.std.specs.Prelude.{◌≡◌, ◌+◌, ◌<◌, ◌≤◌, ◌^◌, ℕ, All, IfOk, IfSome, MatchOption, true, length, take, drop, ◌==◌, ◌&&◌};
 ghost use Rattle.std.specs.Str.{chars};
+ghost use Rattle.rx_units.specs.declared.options.Options.{Options as OptionsValue};
 ghost use Rattle.rx_units.specs.declared.quoted_text.element.Element.{Element as ElementValue};
-ghost use Rattle.rx_units.specs.Quoted.Answers.{IsStop};
+ghost use Rattle.rx_units.specs.declared.quoted_text.literal.Literal.{Literal as LiteralValue};
+ghost use Rattle.rx_units.specs.Quoted.Answers.{IsPlainFront, IsStop};
 ghost use Rattle.rx_units.specs.Quoted.Faults.{empty_at, from_to};
 ghost use Rattle.rx_units.specs.Quoted.Found.{is_closer, seen_front};
-ghost use Rattle.rx_units.specs.Quoted.Fronts.{element, front};
-ghost use Rattle.rx_units.specs.Quoted.Texts.{IsAllowed, byte_count, is_refused};
+ghost use Rattle.rx_units.specs.Quoted.Fronts.{element, front, is_plain};
+ghost use Rattle.rx_units.specs.Quoted.Texts.{IsAllowed, Leads, byte_count, is_refused};
 
 use crate::quoted_text::found::Found;
 use crate::quoted_text::string_front::string_front;
@@ -13,7 +15,7 @@ use crate::quoted_text::template_front::template_front;
 use crate::quoted_text::value::push_element;
 use crate::quoted_text::{Element, Literal, Writing};
 use crate::string_literal_parser::StringLiteralKind;
-use crate::{CodePoint, Options};
+use crate::{CR, CodePoint, EscapeKind, LF, Options};
 use rx_base::{List, OutOfMemory, Span};
 use std::alloc::{AllocError, Global};
 use std::marker::Model;
@@ -58,7 +60,17 @@ impl Source {
 fn characters(alloc: Global, text: &str) -> Result<Vec<char>, AllocError>
     ensures { IfOk result (λ characters. characters.items ≡ chars text.now) }
 {
+    if text.is_ascii() {
+        return ascii_characters(alloc, text.as_bytes());
+    }
     text.chars().collect(alloc)
+}
+
+/// The characters of ASCII text, which are its bytes.
+fn ascii_characters(alloc: Global, bytes: &[u8]) -> Result<Vec<char>, AllocError>
+    ensures { IfOk result (λ characters. characters.items ≡ bytes.now) }
+{
+    bytes.iter().map(|byte| *byte as char).collect(alloc)
 }
 
 /// The place after elements at which none stands, or one that is not allowed.
@@ -76,6 +88,14 @@ impl Stop<'_> {
         ensures { result ≡ (is_closer (seen_front self.now.found) && (length self.now.rest.now == 1)) }
     {
         matches!(self.found, Found::Closer) && self.rest.len() == 1
+    }
+
+    /// Where a text ends whose closing quote, which takes a byte, stands here.
+    pub(crate) fn end(&self) -> u32
+        requires { self.now.offset + 1 < 2 ^ 32 }
+        ensures { result ≡ self.now.offset + 1 }
+    {
+        self.offset + 1
     }
 
     /// Covers some characters from here on, of one byte each.
@@ -107,14 +127,13 @@ pub(crate) fn elements<'a>(
     requires code_points { All (λ c. c ≤ 0x10FFFF) inner.now }
     ensures { IfOk result (IsStop literal options inner.now) }
 {
-    let mut units = List::new(alloc);
-    let mut offset = options.span_offset + 1;
-    let mut rest = inner;
+    // Only a character past FFFF gives more than one unit.
+    let mut units = List::with_capacity(alloc, inner.len())?;
+    let (mut offset, mut rest) = push_plain(&mut units, inner, options.span_offset + 1)?;
     while let Some((element, length)) = next_element(literal, rest, options) {
         let end = offset + width(rest, length);
         push_element(&mut units, element, (offset, end), options)?;
-        offset = end;
-        rest = rest_after(rest, length);
+        (offset, rest) = push_plain(&mut units, rest_after(rest, length), end)?;
     }
     let found = front(literal, rest);
     Ok(Stop {
@@ -123,6 +142,52 @@ pub(crate) fn elements<'a>(
         rest,
         found,
     })
+}
+
+/// Adds the units of the plain elements that stand next. Gives the place after them and the characters from there on.
+fn push_plain<'a>(
+    units: &mut List<CodePoint>,
+    chars: &'a [char],
+    start: u32,
+) -> Result<(u32, &'a [char]), OutOfMemory>
+    requires { start + byte_count chars.now < 2 ^ 32 }
+    ensures { IfOk result (λ end. (literal : LiteralValue) (o : OptionsValue) → Leads literal o
+        (record { units = units.old; offset = start; rest = chars.now }) (record { units = units.new; offset = end.0; rest = end.1.now })) }
+{
+    let mut offset = start;
+    let mut rest = chars;
+    while let Some((value, length)) = plain_element(rest) {
+        let end = offset + length as u32;
+        units.push(CodePoint {
+            span: Span::new(offset, end),
+            value: value as u32,
+            escape_kind: EscapeKind::None,
+        })?;
+        offset = end;
+        rest = rest_after(rest, length);
+    }
+    Ok((offset, rest))
+}
+
+/// The character of ASCII that the next element gives, and how many characters spell it, where the same stands in each kind of quotes: one that stands for itself,
+/// or a backslash by its escape.
+#[inline]
+fn plain_element(chars: &[char]) -> Option<(char, usize)>
+    ensures { IfSome result (λ it. IsPlainFront it.0 it.1 chars.now) }
+{
+    match chars {
+        [first, ..] if is_plain(*first) => Some((*first, 1)),
+        [first, second, ..] if *first == '\\' && *second == '\\' => Some(('\\', 2)),
+        _ => None,
+    }
+}
+
+/// Whether a character is ASCII and stands for itself in each kind of quotes.
+#[inline]
+fn is_plain(c: char) -> bool
+    ensures { result ≡ is_plain c }
+{
+    c.is_ascii() && !matches!(c, '"' | '\'' | '`' | '$' | '\\' | CR | LF)
 }
 
 /// The element that stands next, and how many characters spell it, where it is allowed.
@@ -180,7 +245,7 @@ fn rest_after(chars: &[char], count: usize) -> &[char]
 }
 
 /// How many bytes characters take.
-pub(crate) fn byte_count(chars: &[char]) -> u32
+fn byte_count(chars: &[char]) -> u32
     requires { byte_count chars.now < 2 ^ 32 }
     ensures { result ≡ byte_count chars.now }
 {

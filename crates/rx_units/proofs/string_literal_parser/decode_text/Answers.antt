@@ -1,4 +1,4 @@
-use Rattle.std.proofs.Common.{◌≤◌, inr, sym, subst, arith}
+use Rattle.std.proofs.Common.{◌≡◌, ◌≤◌, ◌==◌, ◌&&◌, ◌∙◌, true, length, inr, sym, subst, arith}
 use Rattle.std.proofs.lemmas.List.Elements.{All-tail}
 use Rattle.std.specs.Prelude.{All}
 use Rattle.rx_base.specs.declared.span.Span.{Span}
@@ -7,7 +7,8 @@ use Rattle.rx_units.specs.declared.string_literal_parser.StringFault.{StringFaul
 use Rattle.rx_units.specs.declared.string_literal_parser.StringFault.TheVariants as string_fault
 use Rattle.rx_units.specs.Quoted.Elements.{quote_of}
 use Rattle.rx_units.specs.Quoted.Faults.{IsStringFault, unopened}
-use Rattle.rx_units.proofs.Quoted.Outcomes.{string_fault_stands, stop_reached, decoded_there, whole_span}
+use Rattle.rx_units.specs.Quoted.Found.{is_closer, seen_front}
+use Rattle.rx_units.proofs.Quoted.Outcomes.{string_fault_stands, stop_reached, decoded_there, ends_after, whole_span}
 use Rattle.rx_units.proofs.string_literal_parser.decode_text.Goals as goal
 
 pub returns-in_default-clause-err : goal.returns-in_default-clause-err
@@ -17,12 +18,17 @@ pub elements-requires-clause-code_points : goal.elements-requires-clause-code_po
 elements-requires-clause-code_points c =
     All-tail (λ c. c ≤ 0x10FFFF) (quote_of (literals.String c.in-Some.kind)) c.in-Some.inner.now (subst (All (λ c. c ≤ 0x10FFFF)) c.in-Some.ensures c.requires.code_points)
 
+pub end-requires : goal.end-requires
+end-requires c = omega (arith, c.requires.fits, ends_after (literals.String c.in-Some.kind) c.args.options c.args.text.now c.in-Some.inner.now c.in_ok-stop.stop c.in-Some.ensures c.in_ok-stop.ensures (grind (arith, c.is_end.ensures, c.if-not-is_end.false)))
+
 pub returns-clause-ok : goal.returns-clause-ok
-returns-clause-ok c = record {
-  decoded = decoded_there (literals.String c.in-Some.kind) c.args.options c.args.text.now c.in-Some.inner.now c.in_ok-stop.stop c.in-Some.ensures c.in_ok-stop.ensures
-      (grind (arith, c.is_end.ensures, c.if-not-is_end.false)) _ c.in_ok-body.ensures;
-  span_is = whole_span c.args.text.now c.args.options _ _ c.new-span.ensures c.byte_count.ensures;
-}
+returns-clause-ok c =
+    let stop = c.in_ok-stop.stop in
+    let end : (is_closer (seen_front stop.found) && (length stop.rest.now == 1)) ≡ true = grind (arith, c.is_end.ensures, c.if-not-is_end.false) in
+    record {
+      decoded = decoded_there (literals.String c.in-Some.kind) c.args.options c.args.text.now c.in-Some.inner.now stop c.in-Some.ensures c.in_ok-stop.ensures end _ c.in_ok-body.ensures;
+      span_is = whole_span c.args.text.now c.args.options _ _ c.new-span.ensures (c.end.ensures ∙ ends_after (literals.String c.in-Some.kind) c.args.options c.args.text.now c.in-Some.inner.now stop c.in-Some.ensures c.in_ok-stop.ensures end);
+    }
 
 pub returns-then-not-is_end-clause-err : goal.returns-then-not-is_end-clause-err
 returns-then-not-is_end-clause-err c =
