@@ -21,7 +21,7 @@ pub use Rattle.rx_base.specs.declared.fault.Fault.{Fault}
 pub use Rattle.rx_base.specs.declared.span.Span.{Span}
 pub use Rattle.rx_class.specs.ClassReading.Answers.{BeginsNoClass, GivesClass, GivesOneClass, HoldsFirstPass}
 pub use Rattle.rx_class.specs.ClassReading.Items.{GivesAtom, GivesItem, IsItem, IsOfText, IsPlain, StandsItem, alone_in_class, atom_member, atom_of, atom_span, back, between, contents}
-pub use Rattle.rx_class.specs.ClassReading.Items.{item_members, stands_alone}
+pub use Rattle.rx_class.specs.ClassReading.Items.{IsCommonAtom, item_members}
 pub use Rattle.rx_class.specs.EscapeReading.Answers.{GivesClassEscape, IsAfterBackslash, environment_of, from_backslash, span_to}
 pub use Rattle.rx_class.specs.EscapeReading.Found.{AnswersFound, IsWithin, class_escape_front, many_digits, no_escape_of_u, seen_escape}
 pub use Rattle.rx_class.specs.Keeping.{KeepsUnits}

@@ -1,4 +1,5 @@
 pub mod Bounds
+pub mod CommonEscapes
 pub mod Gives
 pub mod LegacyLooks
 pub mod Steps

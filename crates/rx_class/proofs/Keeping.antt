@@ -2,6 +2,7 @@
 use Rattle.std.proofs.Common.{◌≡◌, sym, ap, ap₂, ◌∙◌, subst, ℕ, ◌+◌, ◌<◌, ◌≤◌, List, ◌++◌, length, drop, min, Result, Ok, Err, IsErrAnd, arith, append_assoc, length-append, length-drop}
 use Rattle.rx_class.proofs.Common.{drop-drop, CodePoint, Cursor, move_on, rest, KeepsUnits}
 use Rattle.std.proofs.Math.Seq.{drop-append_seam}
+use Rattle.std.proofs.lemmas.List.{drop_min}
 
 -- what holds of a failure holds where it is handed on
 pub handed : {A F : Type 0} (P : Result A F → Type 0) {r : Result A F} {f : F} → IsErrAnd r (λ g. g ≡ f) → P (Err f) → P r
@@ -30,6 +31,10 @@ keeps_from place old new k = record { same = k.same; within = k.within }
 
 pub keeps_placed : (place : ℕ) (old new : Cursor) → KeepsUnits old new → KeepsUnits (record old { place = place }) new
 keeps_placed place old new k = record { same = k.same; within = k.within }
+
+-- what is left after a move
+pub rest_moved : (n : ℕ) (old new : Cursor) → new ≡ move_on n old → drop n (rest old) ≡ rest new
+rest_moved n old new is = drop-drop n old.place old.units ∙ sym (ap rest is ∙ drop_min (old.place + n) old.units)
 
 -- A reader has moved over these units.
 pub record Passes (old new : Cursor) (w : List CodePoint) : Type 0 where

@@ -1,3 +1,4 @@
 pub mod Answers
+pub mod CommonEscapes
 pub mod Found
 pub mod Steps

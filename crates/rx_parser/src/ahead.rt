@@ -17,14 +17,6 @@ pub fn stands_at(units: &[CodePoint], place: usize, ch: char) -> bool
     units.get(place).is_some_and(|unit| unit.value == ch as u32)
 }
 
-/// The units from a place on.
-pub fn tail(units: &[CodePoint], place: usize) -> &[CodePoint]
-    requires { place ≤ length units.now }
-    ensures { result.now ≡ drop place units.now }
-{
-    &units[place..]
-}
-
 /// The number that the first units spell in digits, or 4294967295 where it is greater, and how many digits they are.
 #[tactic(auto, using(crate::proofs::Paces::run_more, crate::proofs::Paces::run_stops, crate::proofs::Paces::run_ends))]
 pub fn number_at<C: Counter>(units: &[CodePoint], steps: &mut C) -> (u32, usize)

@@ -6,8 +6,9 @@ ghost use Rattle.rx_model.specs.Reading.Fronts.{are_counts, counts_at, counts_af
 ghost use Rattle.rx_parser.specs.CountsFound.{seen_digits, digits_counted, seen_counts};
 ghost use Rattle.rx_parser.specs.Pace.{count_looks, plain};
 
-use crate::ahead::{number_at, tail};
+use crate::ahead::number_at;
 use rx_base::Counter;
+use rx_class::tail;
 use rx_tables::is_decimal_digit;
 use rx_units::CodePoint;
 

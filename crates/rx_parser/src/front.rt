@@ -22,7 +22,7 @@ use crate::group::group_at;
 use crate::reference::{indexed_reference, is_reference, named_reference};
 use rx_ast::BoundaryAssertionKind;
 use rx_base::Counter;
-use rx_class::{EscapeFound, any_escape_at, class_escape_at, unit_kind};
+use rx_class::{EscapeFound, any_escape_at, class_escape_at, common_escape_at, unit_kind};
 use rx_model::Mode;
 use rx_scan::Environment;
 use rx_tables::is_syntax_character;
@@ -122,6 +122,16 @@ fn backslash_at<C: Counter>(
     let [first, more @ ..] = following else {
         return Found::Halt(after_last_backslash(environment.mode));
     };
+    if let Some(it) = common_escape_at(following, environment.is_unicode()) {
+        steps.add(it.length - 1);
+        return Found::Leaf {
+            leaf: Leaf::Character {
+                kind: it.kind,
+                value: it.value,
+            },
+            length: it.length + 1,
+        };
+    }
     if is_reference(following, environment, steps) {
         return indexed_reference(following, environment.groups, steps);
     }

@@ -10,10 +10,11 @@ ghost use Rattle.rx_parser.specs.Found.{found_front};
 ghost use Rattle.rx_parser.specs.Modifiers.{modifier_bit, seen_sides};
 ghost use Rattle.rx_parser.specs.Pace.{LooksAtSyntax};
 
-use crate::ahead::{stands_at, tail};
+use crate::ahead::stands_at;
 use crate::found::{Found, Halt, ModifiersFault, OpenerFound};
 use rx_ast::Modifier;
 use rx_base::Counter;
+use rx_class::tail;
 use rx_units::CodePoint;
 
 /// The two sides of modifiers (RegularExpressionModifiers of ECMA-262, 22.2.1) that stand next, and how many units both are, a `-` among them.

@@ -10,9 +10,9 @@ ghost use Rattle.rx_parser.specs.Names.{found_name, found_name_halt, name_end};
 ghost use Rattle.rx_parser.specs.Pace.{halt_looks, name_looks};
 ghost use Rattle.rx_parser.specs.declared.name.NameFound.{NameFound};
 
-use crate::ahead::tail;
 use crate::found::Halt;
 use rx_base::{Counter, is_lead_surrogate, is_trail_surrogate};
+use rx_class::tail;
 use rx_scan::{UnicodeEscape, decode_counted, group_name_length_counted};
 use rx_units::CodePoint;
 

@@ -8,7 +8,7 @@ use crate::builder::Builder;
 use crate::fault::{fault_at_end, here};
 use crate::turn::Parse;
 use rx_ast::Pattern;
-use rx_base::{Counter, Diagnostic, Fault, Steps};
+use rx_base::{Counter, Diagnostic, Fault, List, Steps};
 use rx_model::Rules;
 use rx_scan::{SpanFactory, State, StateFault};
 use rx_units::Reader;
@@ -97,6 +97,7 @@ impl<'a> PatternParser<'a> {
             state,
             spans,
             builder,
+            class_contents: List::new(alloc),
         };
         read_pattern(parse, steps)
     }

@@ -16,9 +16,9 @@ use crate::found::{Found, Halt, Leaf, OpenerFound};
 use crate::frame::GroupKind;
 use crate::front::front_at;
 use crate::term::{class_term, name_in, named_term, property_term, term};
-use rx_ast::Modifiers;
+use rx_ast::{CharacterClassContents, Modifiers};
 use rx_base::{Counter, Diagnostic, Fault, List, OutOfMemory, Span, Text};
-use rx_class::{parse_character_class, parse_character_class_escape_unicode, unit_kind};
+use rx_class::{parse_character_class_escape_unicode, parse_character_class_with_list, unit_kind};
 use rx_scan::{Environment, SpanFactory, State};
 use rx_tables::is_syntax_character;
 use rx_units::{CodePoint, Reader};
@@ -33,6 +33,8 @@ pub struct Parse<'a> {
     pub state: State,
     pub spans: SpanFactory,
     pub builder: Builder,
+    /// What the class that is being read holds so far. Between classes it is memory for the next.
+    pub class_contents: List<CharacterClassContents>,
 }
 
 impl<'a> Parse<'a> {
@@ -168,11 +170,11 @@ impl<'a> Parse<'a> {
         ensures refused { IfErr result (RefusesText self.old) }
         ensures steps { TakesSteps 6 (C.count steps.old) (C.count steps.new) self.old.reader self.new.reader result }
     {
-        match parse_character_class(
-            self.alloc,
+        match parse_character_class_with_list(
             &mut self.reader,
             &self.state,
             &self.spans,
+            &mut self.class_contents,
             steps,
         )? {
             Some(class) => {

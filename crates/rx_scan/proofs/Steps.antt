@@ -3,6 +3,7 @@ use Rattle.std.proofs.Common.{◌≡◌, ◌↔◌, ◌<◌, ℕ, List, [], ◌�
 use Rattle.rx_units.specs.declared.code_point.CodePoint.{CodePoint}
 use Rattle.rx_units.specs.Units.{values}
 use Rattle.rx_model.specs.Characters.Decoding.{four_at, trail_at, value, overflow}
+use Rattle.rx_model.specs.Characters.LegacyEscapes.{four_next}
 use Rattle.rx_scan.specs.declared.unicode_escape.UnicodeEscape.{UnicodeEscape}
 use Rattle.rx_scan.specs.declared.unicode_escape.UnicodeEscape.TheVariants as escape
 use Rattle.rx_scan.specs.EscapeDecoding.{seen_escape}
@@ -13,6 +14,13 @@ short_four (u ∷ []) h = refl
 short_four (u ∷ v ∷ []) h = refl
 short_four (u ∷ v ∷ w ∷ []) h = refl
 short_four (u ∷ v ∷ w ∷ x ∷ us) h = absurd (omega arith)
+
+pub short_next : (us : List CodePoint) → length us < 4 → four_next (values us) ≡ None
+short_next [] h = refl
+short_next (u ∷ []) h = refl
+short_next (u ∷ v ∷ []) h = refl
+short_next (u ∷ v ∷ w ∷ []) h = refl
+short_next (u ∷ v ∷ w ∷ x ∷ us) h = absurd (omega arith)
 
 pub short_trail : (us : List CodePoint) → length us < 2 → trail_at (values us) ≡ None
 short_trail [] h = refl

@@ -21,4 +21,4 @@ pub use group_name::{
 pub use names::Names;
 pub use span_factory::SpanFactory;
 pub use state::{State, StateFault};
-pub use unicode_escape::{UnicodeEscape, decode, decode_counted};
+pub use unicode_escape::{UnicodeEscape, decode, decode_counted, four_hex_digits};

@@ -25,12 +25,20 @@ pub enum Mark<'a> {
 pub fn is_plain(unit: u32) -> bool
     ensures { result ≡ is_plain unit }
 {
-    unit != '\\' as u32
-        && unit != '[' as u32
-        && unit != '(' as u32
-        && unit != ')' as u32
-        && unit != '|' as u32
+    unit >= 128 || BEGINS_MARK[unit as usize] == 0
 }
+
+/// For each ASCII character, 1 where it is one of `\`, `[`, `(`, `)` and `|`, else 0.
+static BEGINS_MARK: [u8; 128] = [
+    0, 0, 0, 0, 0, 0, 0, 0, 0, 0, 0, 0, 0, 0, 0, 0, //
+    0, 0, 0, 0, 0, 0, 0, 0, 0, 0, 0, 0, 0, 0, 0, 0, //
+    0, 0, 0, 0, 0, 0, 0, 0, 1, 1, 0, 0, 0, 0, 0, 0, //
+    0, 0, 0, 0, 0, 0, 0, 0, 0, 0, 0, 0, 0, 0, 0, 0, //
+    0, 0, 0, 0, 0, 0, 0, 0, 0, 0, 0, 0, 0, 0, 0, 0, //
+    0, 0, 0, 0, 0, 0, 0, 0, 0, 0, 0, 1, 1, 0, 0, 0, //
+    0, 0, 0, 0, 0, 0, 0, 0, 0, 0, 0, 0, 0, 0, 0, 0, //
+    0, 0, 0, 0, 0, 0, 0, 0, 0, 0, 0, 0, 1, 0, 0, 0, //
+];
 
 /// The mark (CountLeftCapturingParensWithin, 22.2.1.2) that begins with a unit that is not plain, and how many of the units after it are
 /// the mark's. Each of these is a step.

@@ -4,6 +4,7 @@ ghost use Rattle.rx_base.specs.SurrogatePair.{IsLeadSurrogate, IsTrailSurrogate}
 ghost use Rattle.rx_tables.specs.Characters.{hex_digit_value};
 ghost use Rattle.rx_units.specs.Units.{values};
 ghost use Rattle.rx_model.specs.Characters.Decoding.{after_u, braces_at, decoding_of, four_at, pair_or_unit, run_at, trail_at};
+ghost use Rattle.rx_model.specs.Characters.LegacyEscapes.{four_next};
 ghost use Rattle.rx_scan.specs.DecodingSteps.{digits_after_u, digits_in_braces, digits_looked_at, digits_of_four, digits_of_run, digits_of_trail, escape_length, least_digits, most_digits};
 ghost use Rattle.rx_scan.specs.EscapeDecoding.{IsDecoded, seen_escape};
 
@@ -116,16 +117,43 @@ fn four_digits<'a, C: Counter>(
     }
 }
 
+/// The number of the four hexadecimal digits (Hex4Digits, 12.9.4) that stand next. It counts no steps.
+#[inline(always)]
+#[tactic(auto, using(crate::proofs::Steps::short_next))]
+pub fn four_hex_digits(units: &[CodePoint]) -> Option<u32>
+    ensures { result ≡ four_next (values units.now) }
+{
+    match units {
+        [a, b, c, d, ..] => {
+            let a = digit_value(a)?;
+            let b = digit_value(b)?;
+            let c = digit_value(c)?;
+            let d = digit_value(d)?;
+            Some(16 * (16 * (16 * a + b) + c) + d)
+        }
+        _ => None,
+    }
+}
+
 /// What a hexadecimal digit stands for (HexDigit, 12.9.3), and a step where the unit is one.
-#[tactic(auto, using(rx_tables::proofs::Digits::hex_digit_value_small))]
 fn hex_digit<C: Counter>(unit: &CodePoint, steps: &mut C) -> Option<u32>
     ensures value { result ≡ hex_digit_value unit.now.value }
     ensures small { IfSome result (λ digit. digit < 16) }
     ensures steps { MatchOption result (C.count steps.new ≡ C.count steps.old) (λ _. C.count steps.new ≡ C.count steps.old + 1) }
 {
-    let digit = map_hex_digit(unit.value)?;
+    let digit = digit_value(unit)?;
     steps.tick();
     Some(digit)
+}
+
+/// The same, counting no step.
+#[inline(always)]
+#[tactic(auto, using(rx_tables::proofs::Digits::hex_digit_value_small))]
+fn digit_value(unit: &CodePoint) -> Option<u32>
+    ensures value { result ≡ hex_digit_value unit.now.value }
+    ensures small { IfSome result (λ digit. digit < 16) }
+{
+    map_hex_digit(unit.value)
 }
 
 /// A lead surrogate by itself, or the code point of it and the trail surrogate that is escaped next (HexLeadSurrogate and HexTrailSurrogate,

@@ -1,10 +1,10 @@
 -- What stands after a backslash in a class, and what is answered of it.
-use Rattle.std.proofs.Common.{◌≡◌, ◌≢◌, refl, sym, ap, ◌∙◌, subst, ℕ, suc, ◌+◌, ◌-◌, ◌≤◌, ◌==◌, nat_le, Bool, true, false, not, ◌&&◌, Option, Some, None, Ok, Err, All, get_or, List, [], ◌∷◌, ◌++◌, length, min, codes, arith, inl, inr}
-use Rattle.rx_class.proofs.Common.{cases_Bool, eqb-true, false_from_ne_true, not-true, true≢false, nat_tests, length-map, All-head, is_one_of, Diagnostic, Fault, Span, control_escape_value}
+use Rattle.std.proofs.Common.{◌≡◌, ◌≢◌, refl, sym, ap, ◌∙◌, subst, ℕ, suc, ◌+◌, ◌-◌, ◌≤◌, ◌==◌, nat_le, Bool, true, false, not, ◌&&◌, Option, Some, None, Ok, Err, All, get_or, List, [], ◌∷◌, ◌++◌, length, drop, min, codes, arith, inl, inr, length-append}
+use Rattle.rx_class.proofs.Common.{cases_Bool, eqb-true, false_from_ne_true, not-true, true≢false, nat_tests, le-leb, length-map, All-head, is_one_of, Diagnostic, Fault, Span, control_escape_value}
 use Rattle.rx_class.proofs.Common.{hex_digit_value, is_decimal_digit, Character, CharacterClassEscapeKind, CharacterKind, UnicodePropertyEscape, CodePoint, Cursor, move_on, offset_of, rest}
 use Rattle.rx_class.proofs.Common.{values, front_is, is_hex_digit, IsAtomPlace, atom_obeys, character, class_escape_text, Environment, is_sets, is_unicode, begins_property, span_between}
 use Rattle.rx_class.proofs.Common.{class_environment, both, chosen, ClassAtom, GivesClassEscape, IsAfterBackslash, from_backslash, span_to, GivesAtom, StandsItem, IsOfText, alone_in_class}
-use Rattle.rx_class.proofs.Common.{atom_of, atom_span, back, AnswersFound, class_escape_front, starts, any_there, class_letter, unicode_alone, and-false}
+use Rattle.rx_class.proofs.Common.{atom_of, atom_span, back, AnswersFound, class_escape_front, any_there, class_letter, unicode_alone, and-false}
 use Rattle.rx_base.specs.declared.diagnostic.Diagnostic.TheVariants.{InvalidClassAtom}
 use Rattle.rx_base.specs.declared.fault.Fault.TheVariants as fault
 use Rattle.rx_tables.specs.Characters.{control_letter_value}
@@ -19,13 +19,18 @@ use Rattle.rx_model.specs.Characters.Escapes.{SpellsEscape, control, hexadecimal
 use Rattle.rx_model.specs.Refusals.Stops.{begins_class_escape, is_hyphen_escaped, is_letter, two_hex_digits}
 use Rattle.rx_class.specs.declared.classes.atom.ClassAtom.TheVariants as atom
 use Rattle.rx_class.specs.EscapeReading.Answers as given
-use Rattle.rx_class.specs.ClassReading.Items.{BeginsNone, kind_in_class}
+use Rattle.rx_class.specs.ClassReading.Items.{BeginsNone, IsCommonAtom, kind_in_class}
 use Rattle.rx_class.specs.ClassReading.Items as answer
 use Rattle.rx_class.specs.EscapeReading.Found as found
 use Rattle.rx_class.specs.PropertyReading.Answers.{GivesProperty}
 use Rattle.rx_class.specs.PropertyReading.Answers as given_property
 use Rattle.rx_class.proofs.Keeping.{keeps_placed, stays_keeps}
 use Rattle.rx_class.proofs.PropertyReading.Spans.{cut_off, next_span}
+use Rattle.rx_model.specs.Classes.ClassFronts.{atom_at, atom_read}
+use Rattle.rx_model.proofs.Classes.ClassFronts.{AtomFront, atom_found, atom_is_read}
+use Rattle.rx_class.specs.declared.classes.atom.CommonAtom.{CommonAtom}
+use Rattle.rx_class.specs.declared.escapes.common.CommonEscape.{CommonEscape}
+use Rattle.rx_class.specs.EscapeReading.CommonEscapes.{IsCommon}
 use Rattle.rx_model.proofs.Characters.Escapes.{escape_nothing}
 use Rattle.rx_model.proofs.Characters.LegacyEscapes.{IsCharacterOrNothing, any_in_unicode, any_read, any_refused, any_spelled}
 use Rattle.rx_model.proofs.Refusals.Stops.{some_there, two_number}
@@ -220,11 +225,6 @@ nothing_so_far {e} {added} {start} {old} {new} whole still alone class_gone prop
       },
     )
 
--- no backslash stands first
-pub begins_otherwise : (us : List CodePoint) (none : CodePoint) → (get_or us 0 none).value ≢ 92 → starts 92 (values us) ≡ false
-begins_otherwise [] none h = refl
-begins_otherwise (u ∷ us) none h = false_from_ne_true _ (λ t. h (eqb-true u.value 92 t))
-
 -- A unit that is no backslash stands for itself, and a `-` is a symbol.
 module _ (e : Environment) (no_sets : is_sets e.mode ≡ false) where
   itself : (u : CodePoint) (more : List CodePoint) → (u.value == 92) ≡ false → (u.value == 93) ≡ false → (b : Bool) → (u.value == 45) ≡ b → SpellsClassCharacter e (kind_in_class u) u.value (u ∷ []) more
@@ -232,14 +232,39 @@ module _ (e : Environment) (no_sets : is_sets e.mode ≡ false) where
       let value = eqb-true u.value 45 h in rw h (subst (λ v. SpellsClassCharacter e kinds.Symbol v (u ∷ []) more) (sym value) (row.hyphen u (hyphen_without_sets e.mode no_sets) value))
   itself u more k l false h = rw h (row.raw u (raw_without_sets e.mode u.value (values more) no_sets ∙ rw (h, k, l) refl))
 
-  pub unit_gives : (added s : ℕ) (old new : Cursor) (us : List CodePoint) (none : CodePoint) (span : Span) (kind : CharacterKind) → us ≡ rest old → StandsItem (rest old) → All (λ u. u.value ≤ 0x10FFFF) us
-      → starts 92 (values (rest old)) ≡ false → new ≡ move_on 1 old → s ≡ offset_of old → span ≡ span_to added s new → kind ≡ kind_in_class (get_or us 0 none)
-      → GivesAtom e added old new (Ok (atom.Character (record { span = span; kind = kind; value = (get_or us 0 none).value })))
-  unit_gives added s old new [] none span kind whole stands_item all no_backslash moves start covers is = absurd (stands_item.some (sym whole))
-  unit_gives added s old new (u ∷ us) none span kind whole stands_item all no_backslash moves start covers is =
-      let small : u.value ≤ 0x10FFFF = All-head (λ u. u.value ≤ 0x10FFFF) u us all in
-      answer.some (u ∷ []) us (sym whole)
-      (rw is (itself u us (ap (λ us. starts 92 (values us)) whole ∙ no_backslash) (ap (λ us. starts 93 (values us)) whole ∙ stands_item.no_closer) (u.value == 45) refl))
-      (grind (arith, nat_tests))
-      (next_span old new added s span start moves covers)
-      moves
+  pub unit_common : (us : List CodePoint) (none : CodePoint) (it : CommonAtom) → StandsItem us → All (λ u. u.value ≤ 0x10FFFF) us → (get_or us 0 none).value ≢ 92
+      → it.kind ≡ kind_in_class (get_or us 0 none) → it.value ≡ (get_or us 0 none).value → it.length ≡ 1 → IsCommonAtom e us it
+  unit_common [] none it stands small no_backslash k v n = absurd (stands.some refl)
+  unit_common (u ∷ us) none it stands small no_backslash k v n =
+      let other = false_from_ne_true (u.value == 92) (λ t. no_backslash (eqb-true u.value 92 t)) in
+      record {
+        read = rw (k, v, n) (atom_is_read e (character (kind_in_class u) u.value) (u ∷ []) us (itself u us other stands.no_closer (u.value == 45) refl));
+        code_point = rw v (All-head (λ u. u.value ≤ 0x10FFFF) u us small);
+      }
+
+-- A backslash and an escape that most are stand for the same in a class.
+pub escape_common : (e : Environment) (us : List CodePoint) (none : CodePoint) (it : CommonEscape) {unicode : Bool} → StandsItem us → (get_or us 0 none).value ≡ 92 → is_unicode e.mode ≡ unicode
+    → IsCommon unicode (drop 1 us) it → IsCommonAtom e us (record { kind = it.kind; value = it.value; length = it.length + 1 })
+escape_common e [] none it stands backslash same common = absurd (stands.some refl)
+escape_common e (u ∷ us) none it stands backslash same common =
+    let f = any_there e (character it.kind it.value) (it.length + 1) u us it.kind it.value it.length backslash (any_spelled true e it.kind it.value it.length (values us) (common.read true e same)) refl in
+    record {
+      read = ap (atom_at e) f.whole ∙ atom_is_read e (character it.kind it.value) f.w f.rest f.spelled ∙ ap (atom_read (character it.kind it.value)) f.count;
+      code_point = common.small;
+    }
+
+module _ {e : Environment} {us : List CodePoint} {it : CommonAtom} (common : IsCommonAtom e us it) where
+  front_of : AtomFront e (character it.kind it.value) it.length us
+  front_of = atom_found e (character it.kind it.value) it.length us common.read
+
+  -- Its units are there.
+  pub common_within : it.length ≤ length us
+  common_within = omega (arith, front_of.count, ap length front_of.whole, length-append front_of.w front_of.rest)
+
+  -- What is moved over is answered.
+  pub common_gives : (added start : ℕ) (old new : Cursor) (span : Span) → us ≡ rest old → start ≡ offset_of old → new ≡ move_on it.length old → span ≡ span_to added start new
+      → GivesAtom e added old new (Ok (atom.Character (record { span = span; kind = it.kind; value = it.value })))
+  common_gives added start old new span here starts moves covers =
+      answer.some front_of.w front_of.rest (sym here ∙ front_of.whole) front_of.spelled (le-leb it.value 0x10FFFF common.code_point)
+      (next_span old new it.length added start span starts moves covers ∙ ap (λ n. span_between old.units old.first added old.place (old.place + n)) (sym front_of.count))
+      (moves ∙ ap (λ n. move_on n old) (sym front_of.count))

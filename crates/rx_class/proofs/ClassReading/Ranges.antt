@@ -1,10 +1,10 @@
 -- An item of a class is an atom, or a range of two atoms with a `-` between them.
-use Rattle.std.proofs.Common.{◌≡◌, refl, sym, ap, ◌∙◌, subst, ℕ, ◌+◌, ◌<◌, ◌≤◌, ◌==◌, Bool, true, false, not, ◌&&◌, Some, Ok, Err, List, [], ◌∷◌, ◌++◌, length, arith, inl, inr, append_assoc, length-append}
-use Rattle.rx_class.proofs.Common.{eqb-true, true≢false, not-true, nat_tests, Diagnostic, Fault, Span, Character, CharacterClassContents, CharacterClassRange, mirror_contents, CodePoint}
-use Rattle.rx_class.proofs.Common.{Cursor, front, move_on, offset_of, rest, offset_at, values, starts, IsItemPlace, IsSecondPlace, atom_obeys, Atom, character, item, leave, member_events}
+use Rattle.std.proofs.Common.{◌≡◌, refl, sym, ap, ◌∙◌, subst, ℕ, ◌+◌, ◌<◌, ◌≤◌, ◌==◌, Bool, true, false, not, ◌&&◌, Ok, Err, List, [], ◌∷◌, ◌++◌, length, drop, arith, inl, inr, append_assoc, length-append}
+use Rattle.rx_class.proofs.Common.{eqb-true, true≢false, not-true, Diagnostic, Fault, Span, Character, CharacterClassContents, CharacterClassRange, mirror_contents, CodePoint}
+use Rattle.rx_class.proofs.Common.{Cursor, move_on, offset_of, rest, offset_at, values, starts, IsItemPlace, IsSecondPlace, atom_obeys, Atom, character, item, leave, member_events}
 use Rattle.rx_class.proofs.Common.{token, within, IsEarlyMember, member_strings, Environment, is_sets, is_unicode, span_between, class_environment, both, atom_some, unicode_alone}
 use Rattle.rx_class.proofs.Common.{strings_by_name, ClassAtom, ClassItem, span_to, GivesAtom, GivesItem, IsItem, IsOfText, IsPlain, StandsItem, atom_member, atom_of, atom_span, between}
-use Rattle.rx_class.proofs.Common.{item_members, stands_alone}
+use Rattle.rx_class.proofs.Common.{item_members}
 use Rattle.std.proofs.lemmas.Bool.{leb-true}
 use Rattle.rx_base.specs.declared.fault.Fault.TheVariants as fault
 use Rattle.rx_ast.specs.declared.leaf.CharacterKind.TheVariants as kinds
@@ -16,7 +16,7 @@ use Rattle.rx_model.proofs.Classes.ClassFronts.{after_first, after_one}
 use Rattle.rx_model.proofs.Classes.PieceClasses.{legacy_threes}
 use Rattle.rx_class.specs.declared.classes.atom.ClassAtom.TheVariants as atom
 use Rattle.rx_class.specs.declared.classes.item.ClassItem.TheVariants as given_item
-use Rattle.rx_class.specs.ClassReading.Items.{IsAtomCause, IsBetween, IsItemCause, hyphen_member, stands_range}
+use Rattle.rx_class.specs.ClassReading.Items.{IsAtomCause, IsBetween, IsItemCause, hyphen_member}
 use Rattle.rx_class.specs.ClassReading.Items as items
 use Rattle.rx_class.proofs.Keeping.{Passes, keeps_from, passes_keeps, passes_moved, passes_on, passes_over}
 use Rattle.rx_class.proofs.ClassReading.Places.{operand_place}
@@ -51,69 +51,8 @@ dash_front (u ∷ v ∷ us) h =
     }
 dash_front us h = absurd (let no : ⊥ = cc h in no)
 
--- Before another character than a `-` no range goes on.
-undashed : (u : CodePoint) (us : List CodePoint) → (u.value == 45) ≡ false → is_dashed (values (u ∷ us)) ≡ false
-undashed u [] h = refl
-undashed u (v ∷ us) h = ap (λ b. b && not (v.value == 93)) h
-
--- What stands alone is no backslash.
-pub alone_begins : (w : List ℕ) → stands_alone w ≡ true → starts 92 w ≡ false
-alone_begins (c ∷ d ∷ w) h = not-true (c == 92) (both (not (c == 92)) (not (d == 45)) h).0
-alone_begins w h = absurd (let no : ⊥ = cc h in no)
-
--- A range of two units stands next, and other readers stand after its first unit and after the `-`.
-pub record RangeFront (old to mid : Cursor) : Type 0 where
-  pub low : CodePoint
-  pub high : CodePoint
-  pub following : List CodePoint
-  pub whole : rest mid ≡ high ∷ following
-  pub first : rest old ≡ low ∷ rest to
-  pub low_begins : (low.value == 92) ≡ false
-  pub dashed : is_dashed (values (rest to)) ≡ true
-  pub high_begins : (high.value == 92) ≡ false
-  pub no_closer : (high.value == 93) ≡ false
-  pub ordered : low.value ≤ high.value
-
--- what the test of a range says
-range_parts : (c h d : ℕ) (w : List ℕ) → stands_range (c ∷ h ∷ d ∷ w) ≡ true → ((c == 92) ≡ false) × ((h == 45 && not (d == 93)) ≡ true) × ((d == 92) ≡ false) × ((d == 93) ≡ false) × (c ≤ d)
-range_parts c h d w is = (grind (arith, nat_tests), grind (arith, nat_tests), grind (arith, nat_tests), grind (arith, nat_tests), grind (arith, nat_tests))
-
-pub range_front : (old to mid : Cursor) (us : List CodePoint) → rest old ≡ us → stands_range (values us) ≡ true → to ≡ move_on 1 old → mid ≡ move_on 1 to → RangeFront old to mid
-range_front old to mid (u ∷ h ∷ d ∷ us) whole is t m =
-    let p = passes_moved old to (u ∷ []) (h ∷ d ∷ us) whole (omega arith) t in
-    let q = passes_moved to mid (h ∷ []) (d ∷ us) p.1 (omega arith) m in
-    let parts = range_parts u.value h.value d.value (values us) is in
-    record {
-      low = u;
-      high = d;
-      following = us;
-      whole = q.1;
-      first = whole ∙ ap (λ us. u ∷ us) (sym p.1);
-      low_begins = parts.0;
-      dashed = ap (λ us. is_dashed (values us)) p.1 ∙ parts.1;
-      high_begins = parts.2;
-      no_closer = parts.3;
-      ordered = parts.4;
-    }
-range_front old to mid us whole is t m = absurd (let no : ⊥ = cc is in no)
-
-module _ {old to mid : Cursor} (f : RangeFront old to mid) where
-  pub range_begins : starts 92 (values (rest old)) ≡ false
-  range_begins = ap (λ us. starts 92 (values us)) f.first ∙ f.low_begins
-
-  pub range_goes_on : starts 92 (values (rest mid)) ≡ false
-  range_goes_on = ap (λ us. starts 92 (values us)) f.whole ∙ f.high_begins
-
-  pub range_high_stands : StandsItem (rest mid)
-  range_high_stands = record { some = λ e. let no : ⊥ = cc (f.whole, e) in no; no_closer = ap (λ us. starts 93 (values us)) f.whole ∙ f.no_closer }
-
-  pub range_ordered : (min max : ℕ) → front (rest old) ≡ Some min → front (rest mid) ≡ Some max → min ≤ max
-  range_ordered min max low high =
-      let first : Some f.low.value ≡ Some min = sym (ap front f.first) ∙ low in
-      let last : Some f.high.value ≡ Some max = sym (ap front f.whole) ∙ high in
-      let is_min : f.low.value ≡ min = cc first in
-      let is_max : f.high.value ≡ max = cc last in
-      omega (arith, f.ordered, is_min, is_max)
+pub after_dash : (us : List CodePoint) → is_dashed (values us) ≡ true → (1 ≤ length us) × StandsItem (drop 1 us)
+after_dash us h = let d = dash_front us h in rw d.whole (omega arith, d.stands)
 
 -- An atom as a member of a class.
 pub atom_events : (a : ClassAtom) → member_events (atom_member a) ≡ within (atom_span a) (token (item (atom_of a)) ∷ [])
@@ -181,17 +120,6 @@ module _ (e : Environment) (added : ℕ) (old : Cursor) where
       let alone = ap (λ us. is_dashed (values us)) (sym same) ∙ sym is_test ∙ is_false in
       items.some f.w (rest new) f.passes.whole (rw m (alone_is it f.w (rest new) no_sets f.spelled f.obeys alone f.span)) (passes_over f.passes)
 
-  -- So is a unit that stands alone.
-  lone_undashed : (new : Cursor) (us : List CodePoint) → rest old ≡ us → new ≡ move_on 1 old → stands_alone (values us) ≡ true → is_dashed (values (rest new)) ≡ false
-  lone_undashed new (u ∷ v ∷ us) whole moves h =
-      ap (λ us. is_dashed (values us)) (passes_moved old new (u ∷ []) (v ∷ us) whole (omega arith) moves).1
-      ∙ undashed v us (not-true (v.value == 45) (both (not (u.value == 92)) (not (v.value == 45)) h).1)
-  lone_undashed new us whole moves h = absurd (let no : ⊥ = cc h in no)
-
-  pub lone_gives : {new : Cursor} {it : ClassAtom} {given : CharacterClassContents} → is_sets e.mode ≡ false → GivesAtom e added old new (Ok it) → new ≡ move_on 1 old → stands_alone (values (rest old)) ≡ true
-      → mirror_contents given ≡ atom_member it → GivesItem e added old new (Ok (given_item.One given))
-  lone_gives {new} no_sets g moves alone m = alone_gives no_sets g refl refl (lone_undashed new (rest old) refl moves alone) m
-
   -- An atom and the `-` of a range stand at a reader's place, and the reader moved over both.
   pub record DashStands (new : Cursor) (it : ClassAtom) (hyphen_at : Span) : Type 0 where
     pub w : List CodePoint
@@ -222,7 +150,7 @@ module _ (e : Environment) (added : ℕ) (old : Cursor) where
         spelled = subst (SpellsAtom e (atom_of it) f.w) hyphen.whole f.spelled;
         obeys = f.obeys;
         span = f.span;
-        hyphen_span = next_span to new added start hyphen_at starts moves covers ∙ ap (λ (r : Cursor). span_between r.units r.first added r.place (r.place + 1)) f.passes.moves;
+        hyphen_span = next_span to new 1 added start hyphen_at starts moves covers ∙ ap (λ (r : Cursor). span_between r.units r.first added r.place (r.place + 1)) f.passes.moves;
       }
 
   -- the place after the `-`
@@ -369,12 +297,12 @@ module _ (e : Environment) (added : ℕ) (old : Cursor) where
     range_gives _ _ _ given {h} p (items.range {min = min} {max = max} ordered) m =
         items.some (p.dash.w ++ (p.dash.hyphen ∷ p.second.w)) (rest new) p.passes.whole (rw m (range_is min max ordered p)) (passes_over p.passes)
 
-    -- So is a range of two units.
-    pub units_range_gives : {to mid : Cursor} {min max : Character} {given : CharacterClassContents} → RangeFront old to mid → GivesAtom e added old to (Ok (atom.Character min)) → mid ≡ move_on 1 to
+    -- So is one whose atoms were found before the reader moved.
+    pub common_range_gives : {to mid : Cursor} {min max : Character} {given : CharacterClassContents} → is_dashed (values (rest to)) ≡ true → GivesAtom e added old to (Ok (atom.Character min)) → mid ≡ move_on 1 to
         → GivesAtom e added mid new (Ok (atom.Character max)) → min.value ≤ max.value → mirror_contents given ≡ tree.range (record { span = between min.span.start max.span.end; min = min; max = max })
         → GivesItem e added old new (Ok (given_item.One given))
-    units_range_gives {min = min} {max = max} {given = given} f low moves high ordered m =
-        range_gives (atom.Character min) (atom.Character max) _ given (pair_given (dash_given low refl refl f.dashed refl moves refl) high) (items.range ordered) m
+    common_range_gives {min = min} {max = max} {given = given} dashed low moves high ordered m =
+        range_gives (atom.Character min) (atom.Character max) _ given (pair_given (dash_given low refl refl dashed refl moves refl) high) (items.range ordered) m
 
     -- With neither `u` nor `v` two atoms of which one is no character are three items, with the `-` between.
     three_row : (a b : Atom) (s h t : Span) (w v more : List CodePoint) (hyphen : CodePoint) → BeforeThird e a (hyphen ∷ (v ++ more)) → SpellsAtom e a w (hyphen ∷ (v ++ more)) → SpellsAtom e b v more → hyphen.value ≡ 45

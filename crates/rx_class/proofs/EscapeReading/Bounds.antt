@@ -15,7 +15,7 @@ in_units : (us : List CodePoint) (a b : List ℕ) (n : ℕ) → values us ≡ a 
 in_units us a b n whole count = omega (arith, count, length-append a b, ap length whole, length-map us (λ (u : CodePoint). u.value))
 
 -- an environment of n groups
-abbrev environment_by : Bool → ℕ → Bool → Environment
+abbrev pub environment_by : Bool → ℕ → Bool → Environment
 environment_by unicode groups named = record { mode = mode_by unicode false; groups = groups; named = named; buffer_boundaries = true }
 
 character_within : (u : Bool) (us : List CodePoint) (kind : CharacterKind) (v n : ℕ) → escape_at u (values us) ≡ escaped kind v n → (n ≤ length us) × (v ≤ 0x10FFFF)

@@ -1,33 +1,8 @@
 -- How escapes are looked at that are escapes with neither `u` nor `v` alone.
-use Rattle.std.proofs.Common.{◌≡◌, refl, sym, ap, ◌∙◌, ℕ, ◌+◌, ◌-◌, ◌*◌, ◌<◌, ◌≤◌, ◌&&◌, nat_le, true, false, is_some, Option, Some, None, List, [], ◌∷◌, length, drop, get_or, take, suc, inl, inr, arith, option_and_then}
-use Rattle.rx_class.proofs.Common.{and-false, list_all, cases_Bool, cond-false, cond-true, nat_tests, hex_digit_value, is_decimal_digit, CodePoint, values, is_hex_digit}
-use Rattle.std.proofs.Math.Bool.{and_assoc}
+use Rattle.std.proofs.Common.{◌≡◌, ap, ◌∙◌, ℕ, ◌+◌, ◌-◌, ◌*◌, ◌<◌, ◌≤◌, nat_le, true, false, List, [], ◌∷◌, length, drop, get_or, suc, inl, inr, arith}
+use Rattle.rx_class.proofs.Common.{cases_Bool, cond-false, cond-true, nat_tests, is_decimal_digit, CodePoint, values}
 use Rattle.std.proofs.Math.Seq.{drop-cons}
-use Rattle.std.proofs.lemmas.List.{take_all}
-use Rattle.rx_units.specs.Digits.{hex_after}
-use Rattle.rx_model.specs.Characters.LegacyEscapes.{four_next, run_number, two_next}
-
--- characters spell a number where all of them are digits
-digits_on : (n : ℕ) (w : List ℕ) (o : Option ℕ) → ((d : ℕ) → is_some (hex_after (16 * n + d) w) ≡ list_all is_hex_digit w)
-    → is_some (option_and_then (λ d. hex_after (16 * n + d) w) o) ≡ (is_some o && list_all is_hex_digit w)
-digits_on n w None h = refl
-digits_on n w (Some d) h = h d
-
-all_hex : (n : ℕ) (w : List ℕ) → is_some (hex_after n w) ≡ list_all is_hex_digit w
-all_hex n [] = refl
-all_hex n (c ∷ w) = digits_on n w (hex_digit_value c) (λ d. all_hex (16 * n + d) w)
-
-pub four_hex : (a b : ℕ) (w : List ℕ) → is_some (four_next (a ∷ b ∷ w)) ≡ (is_hex_digit a && (is_hex_digit b && is_some (two_next w)))
-four_hex a b (c ∷ d ∷ w) = all_hex 0 (a ∷ b ∷ c ∷ d ∷ []) ∙ ap (λ o. is_hex_digit a && (is_hex_digit b && o)) (sym (all_hex 0 (c ∷ d ∷ [])))
-four_hex a b w = sym (ap (λ o. is_hex_digit a && o) (and-false (is_hex_digit b)) ∙ and-false (is_hex_digit a))
-
-pub four_units : (us : List CodePoint) (x y : CodePoint) → 2 ≤ length us
-    → is_some (four_next (values us)) ≡ ((is_hex_digit (get_or us 0 x).value && is_hex_digit (get_or us 1 y).value) && is_some (two_next (values (take (length us - 2) (drop 2 us)))))
-four_units (a ∷ b ∷ us) x y l =
-    four_hex a.value b.value (values us)
-    ∙ sym (and_assoc (is_hex_digit a.value) (is_hex_digit b.value) (is_some (two_next (values us))))
-    ∙ ap (λ us. (is_hex_digit a.value && is_hex_digit b.value) && is_some (two_next (values us))) (sym (take_all (length (a ∷ b ∷ us) - 2) us (omega arith)))
-four_units us x y l = absurd (omega arith)
+use Rattle.rx_model.specs.Characters.LegacyEscapes.{run_number}
 
 -- further digits make a number no less
 number_on : (n c : ℕ) (w : List ℕ) → is_decimal_digit c ≡ true → run_number n (c ∷ w) ≡ run_number (10 * n + (c - 48)) w

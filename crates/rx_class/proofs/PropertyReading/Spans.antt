@@ -39,6 +39,6 @@ pub from_brace : (r : Cursor) (added c : ℕ) (span : Span) → 1 ≤ r.place �
     → span ≡ span_between r.units r.first added (r.place - 1 + 3) (r.place - 1 + 3 + c)
 from_brace r added c span some is = is ∙ ap (λ p. span_between r.units r.first added p (p + c)) (let k : r.place + 2 ≡ r.place - 1 + 3 = omega (arith, some) in k)
 
--- the span of the next unit
-pub next_span : (r after : Cursor) (added s : ℕ) (span : Span) → s ≡ offset_of r → after ≡ move_on 1 r → span ≡ span_to added s after → span ≡ span_between r.units r.first added r.place (r.place + 1)
-next_span r after added s span start moves is = is ∙ ap₂ (between added) start (ap offset_of moves ∙ moved_offset r 1)
+-- the span of the next units
+pub next_span : (r after : Cursor) (n added s : ℕ) (span : Span) → s ≡ offset_of r → after ≡ move_on n r → span ≡ span_to added s after → span ≡ span_between r.units r.first added r.place (r.place + n)
+next_span r after n added s span start moves is = is ∙ ap₂ (between added) start (ap offset_of moves ∙ moved_offset r n)

@@ -1,5 +1,5 @@
 -- What the functions that read atoms and items of a class answer, at a place where one must stand, by the environment of the reader's whole text.
-use Rattle.std.specs.Prelude.{◌≡◌, ℕ, ◌+◌, ◌-◌, ◌<◌, ◌≤◌, ◌==◌, ◌&&◌, ◌≢◌, Bool, not, nat_le, false, true, Option, Some, None, Result, Ok, Err, List, [], ◌∷◌, ◌++◌, length, map, if◌then◌else◌}
+use Rattle.std.specs.Prelude.{◌≡◌, ℕ, ◌+◌, ◌-◌, ◌<◌, ◌≤◌, ◌==◌, ◌&&◌, ◌≢◌, Bool, false, true, Option, Some, None, Result, Ok, Err, List, [], ◌∷◌, ◌++◌, length, map, if◌then◌else◌}
 use Rattle.rx_base.specs.Ascii as ascii
 use Rattle.rx_base.specs.declared.diagnostic.Diagnostic.{Diagnostic}
 use Rattle.rx_base.specs.declared.diagnostic.Diagnostic.TheVariants.{CharacterClassRangeOutOfOrder, CharacterClassRangeDashNotSubtraction, CharacterClassRangeInvalidAtom}
@@ -20,6 +20,7 @@ use Rattle.rx_units.specs.Units.{offset_at, values}
 use Rattle.rx_units.specs.Digits.{front_is}
 use Rattle.rx_model.specs.Refusals.ClassCauses.{IsClassCause, is_character}
 use Rattle.rx_model.specs.Refusals.ClassPlaces.{IsAtomPlace, IsItemPlace}
+use Rattle.rx_model.specs.Classes.ClassFronts.{atom_at, atom_read}
 use Rattle.rx_model.specs.Classes.ClassRows.{ClassRow, SpellsAtom, fresh}
 use Rattle.rx_model.specs.Classes.ClassRuns.{atom_obeys}
 use Rattle.rx_model.specs.Classes.ClassTokens.{Atom, character, escape, property, more_members_events}
@@ -31,6 +32,7 @@ use Rattle.rx_model.specs.Refusals.Reached.{span_between, class_environment}
 use Rattle.rx_model.specs.Characters.UnitKinds.{unit_kind}
 use Rattle.rx_class.specs.declared.classes.atom.ClassAtom.{ClassAtom}
 use Rattle.rx_class.specs.declared.classes.atom.ClassAtom.TheVariants as atom
+use Rattle.rx_class.specs.declared.classes.atom.CommonAtom.{CommonAtom}
 use Rattle.rx_class.specs.declared.classes.item.ClassItem.{ClassItem}
 use Rattle.rx_class.specs.declared.classes.item.ClassItem.TheVariants as item
 use Rattle.rx_class.specs.EscapeReading.Found.{class_escape_front}
@@ -80,6 +82,11 @@ back r = record r { place = r.place - 1 }
 pub record StandsItem (us : List CodePoint) : Type 0 where
   pub some : us ≡ [] → ⊥
   pub no_closer : starts ascii.right_bracket (values us) ≡ false
+
+-- The atom that the units begin with is this character, a code point, in as many units.
+pub record IsCommonAtom (e : Environment) (us : List CodePoint) (it : CommonAtom) : Type 0 where
+  pub read : atom_at e us ≡ atom_read (character it.kind it.value) it.length
+  pub code_point : it.value ≤ 0x10FFFF
 
 -- Where the environment is that of the text, this is a refusal of each class in which an atom may stand at the reader's place.
 abbrev pub IsAtomCause : Environment → ℕ → Cursor → Diagnostic → Type 0
@@ -158,19 +165,6 @@ pub record AddsItem (e : Environment) (added : ℕ) (old new : Cursor) (before a
   pub it : ClassItem
   pub gives : GivesItem e added old new (Ok it)
   pub adds : after ≡ before ++ item_contents it
-
--- The first character is an item by itself: it is no backslash, and what follows it is no `-`.
-abbrev pub stands_alone : List ℕ → Bool
-stands_alone [] = false
-stands_alone (c ∷ []) = false
-stands_alone (c ∷ d ∷ w) = not (c == ascii.backslash) && not (d == ascii.hyphen)
-
--- The first three characters are a range whose ends stand for themselves, in order.
-abbrev pub stands_range : List ℕ → Bool
-stands_range [] = false
-stands_range (c ∷ []) = false
-stands_range (c ∷ h ∷ []) = false
-stands_range (c ∷ h ∷ d ∷ w) = h == ascii.hyphen && not (c == ascii.backslash) && not (d == ascii.backslash) && not (d == ascii.right_bracket) && nat_le c d
 
 -- the contents of a class
 abbrev pub contents : List CharacterClassContents → Members

@@ -1,17 +1,15 @@
-ghost use Rattle.std.specs.Prelude.{◌≡◌, IfOk, Ok, Some, false};
-ghost use Rattle.rx_base.specs.Ascii as ascii;
+ghost use Rattle.std.specs.Prelude.{◌≡◌, ◌≤◌, All, IfOk, IfSome, Ok, drop, false, length};
 ghost use Rattle.rx_ast.specs.ClassTree.{mirror_contents};
-ghost use Rattle.rx_units.specs.Cursor.{front, move_on, rest};
-ghost use Rattle.rx_units.specs.Pace.{IsMove, TakesSteps};
+ghost use Rattle.rx_units.specs.Cursor.{move_on, rest};
+ghost use Rattle.rx_units.specs.Pace.{IsPaced, TakesSteps};
 ghost use Rattle.rx_units.specs.Units.{values};
 ghost use Rattle.rx_model.specs.Characters.UnitKinds.{unit_kind};
-ghost use Rattle.rx_model.specs.FirstPass.Marks.{starts};
-ghost use Rattle.rx_model.specs.Inputs.Environment.{Environment, is_sets};
+ghost use Rattle.rx_model.specs.Inputs.Environment.{Environment, is_sets, is_unicode};
 ghost use Rattle.rx_class.specs.EscapeReading.Answers.{IsAfterBackslash, environment_of};
-ghost use Rattle.rx_class.specs.ClassReading.Items.{BeginsNone, GivesAtom, StandsItem, alone_in_class, atom_member, atom_span, back, kind_in_class};
+ghost use Rattle.rx_class.specs.ClassReading.Items.{BeginsNone, GivesAtom, IsCommonAtom, StandsItem, alone_in_class, atom_member, atom_span, back, kind_in_class};
 
-use crate::class_escape_at;
 use crate::reading::Reading;
+use crate::{class_escape_at, common_escape_at};
 use rx_ast::{
     Character, CharacterClassContents, CharacterClassEscape, CharacterKind, UnicodePropertyEscape,
 };
@@ -25,6 +23,14 @@ pub enum ClassAtom {
     Character(Character),
     Escape(CharacterClassEscape),
     Property(UnicodePropertyEscape),
+}
+
+/// A character that stands next as an atom of a class without `v`, and how many units spell it.
+#[derive(Clone, Copy)]
+pub struct CommonAtom {
+    pub kind: CharacterKind,
+    pub value: u32,
+    pub length: usize,
 }
 
 impl ClassAtom {
@@ -72,27 +78,27 @@ impl<C: Counter> Reading<'_, '_, '_, '_, '_, C> {
             self.advance();
             return self.escaped_atom(start);
         }
-        Ok(ClassAtom::Character(self.unit_character()))
+        Ok(ClassAtom::Character(self.take_common(unit_atom(unit))))
     }
 
-    /// Reads the character that is one unit of a class, no backslash, and moves over it.
-    #[inline]
-    pub(crate) fn unit_character(&mut self) -> Character
-        requires stands { StandsItem (rest self.old.reader.now) }
-        requires no_backslash { starts ascii.backslash (values (rest self.old.reader.now)) ≡ false }
-        ensures atom { (e : Environment) → is_sets e.mode ≡ false → GivesAtom e self.old.spans.now self.old.reader.now self.new.reader.now (Ok (ClassAtom.Character result)) }
-        ensures value { front (rest self.old.reader.now) ≡ Some result.value }
-        ensures reader { self.new.reader.now ≡ move_on 1 self.old.reader.now }
-        ensures steps { IsMove (C.count self.old.steps.now) (C.count self.new.steps.now) self.old.reader.now self.new.reader.now }
+    /// Moves over an atom that was found at the place, and gives its character. What stands after a backslash and a letter are digits, and
+    /// to have looked at each is a step.
+    #[inline(always)]
+    pub(crate) fn take_common(&mut self, atom: CommonAtom) -> Character
+        requires { IsCommonAtom (environment_of self.old.state.now) (rest self.old.reader.now) atom }
+        ensures gives { GivesAtom (environment_of self.old.state.now) self.old.spans.now self.old.reader.now self.new.reader.now (Ok (ClassAtom.Character result)) }
+        ensures value { result.value ≡ atom.value }
+        ensures reader { self.new.reader.now ≡ move_on atom.length self.old.reader.now }
+        ensures steps { IsPaced 6 (C.count self.old.steps.now) (C.count self.new.steps.now) self.old.reader.now self.new.reader.now }
         ensures on { ReadsOn self.old self.new }
     {
         let start = self.offset();
-        let unit = self.units()[0];
-        self.advance();
+        self.steps.add(atom.length.saturating_sub(2));
+        self.skip(atom.length);
         Character {
             span: self.span_from(start),
-            kind: kind_in_class(unit),
-            value: unit.value,
+            kind: atom.kind,
+            value: atom.value,
         }
     }
 
@@ -137,6 +143,49 @@ impl<C: Counter> Reading<'_, '_, '_, '_, '_, C> {
         }
         let span = self.span_from(start);
         Err(Fault::Diagnostic(Diagnostic::InvalidClassAtom { span }))
+    }
+}
+
+/// The character that the units begin with as an atom of a class without `v`, where it is a unit that stands for itself or an escape
+/// that most escapes are. `None` says nothing.
+#[inline(always)]
+pub fn common_atom_at(units: &[CodePoint], unicode: bool) -> Option<CommonAtom>
+    requires stands { StandsItem units.now }
+    requires code_points { All (λ unit. unit.value ≤ 0x10FFFF) units.now }
+    ensures { IfSome result (λ it. (e : Environment) → is_unicode e.mode ≡ unicode → is_sets e.mode ≡ false → IsCommonAtom e units.now it) }
+{
+    let unit = units[0];
+    if unit.value != '\\' as u32 {
+        return Some(unit_atom(unit));
+    }
+    let escape = common_escape_at(tail(units, 1), unicode)?;
+    Some(CommonAtom {
+        kind: escape.kind,
+        value: escape.value,
+        length: escape.length + 1,
+    })
+}
+
+/// The units from a place on.
+#[inline(always)]
+pub fn tail(units: &[CodePoint], place: usize) -> &[CodePoint]
+    requires { place ≤ length units.now }
+    ensures { result.now ≡ drop place units.now }
+{
+    &units[place..]
+}
+
+/// A unit that stands for itself, as an atom.
+#[inline(always)]
+fn unit_atom(unit: CodePoint) -> CommonAtom
+    ensures kind { result.kind ≡ kind_in_class unit }
+    ensures value { result.value ≡ unit.value }
+    ensures length { result.length ≡ 1 }
+{
+    CommonAtom {
+        kind: kind_in_class(unit),
+        value: unit.value,
+        length: 1,
     }
 }
 

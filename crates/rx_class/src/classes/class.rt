@@ -1,4 +1,4 @@
-ghost use Rattle.std.specs.Prelude.{◌≡◌, ◌∷◌, [], false, if◌then◌else◌, true};
+ghost use Rattle.std.specs.Prelude.{◌≡◌, ◌∷◌, [], IfOk, false, if◌then◌else◌, true};
 ghost use Rattle.rx_base.specs.Ascii as ascii;
 ghost use Rattle.rx_units.specs.Cursor.{begins, move_on, rest};
 ghost use Rattle.rx_units.specs.Pace.{IsPaced, TakesSteps};
@@ -13,8 +13,8 @@ ghost use Rattle.rx_class.specs.ReadingSteps.{IsReading};
 
 use crate::reading::{Reading, is_sets};
 use crate::sets::front::begins_with;
-use rx_ast::{CharacterClass, CharacterClassContentsKind};
-use rx_base::{Counter, Diagnostic, Fault, List, Unterminated};
+use rx_ast::{CharacterClass, CharacterClassContents, CharacterClassContentsKind};
+use rx_base::{Counter, Diagnostic, Fault, List, OutOfMemory, Unterminated};
 use rx_scan::{SpanFactory, State};
 use rx_units::Reader;
 use std::alloc::Global;
@@ -45,6 +45,24 @@ pub fn parse_character_class<C: Counter>(
     ensures gives { GivesClass (environment_of state.now) spans.now reader.old reader.new result }
     ensures steps { IsReading 6 (C.count steps.old) (C.count steps.new) reader.old reader.new result }
 {
+    parse_character_class_with_list(reader, state, spans, &mut List::new(alloc), steps)
+}
+
+/// Reads the class that stands next as `parse_character_class` does, and gathers what it holds in a list, whose memory then serves the
+/// next class too. What the list holds before and after does not matter.
+pub fn parse_character_class_with_list<C: Counter>(
+    reader: &mut Reader<'_>,
+    state: &State,
+    spans: &SpanFactory,
+    contents: &mut List<CharacterClassContents>,
+    steps: &mut C,
+) -> Result<Option<CharacterClass>, Fault>
+    requires fits { AreFitting spans.now reader.old }
+    requires pass { HoldsFirstPass state.now reader.old.units }
+    ensures gives { GivesClass (environment_of state.now) spans.now reader.old reader.new result }
+    ensures steps { IsReading 6 (C.count steps.old) (C.count steps.new) reader.old reader.new result }
+{
+    let alloc = contents.allocator();
     let mut reading = Reading {
         reader,
         state,
@@ -52,14 +70,17 @@ pub fn parse_character_class<C: Counter>(
         alloc,
         steps,
     };
-    reading.character_class()
+    reading.character_class(contents)
 }
 
 impl<C: Counter> Reading<'_, '_, '_, '_, '_, C> {
     ghost use Rattle.rx_class.specs.Readings.{ReadsOn};
 
     /// Reads the class that stands next.
-    pub(crate) fn character_class(&mut self) -> Result<Option<CharacterClass>, Fault>
+    pub(crate) fn character_class(
+        &mut self,
+        contents: &mut List<CharacterClassContents>,
+    ) -> Result<Option<CharacterClass>, Fault>
         requires pass { HoldsFirstPass self.old.state.now self.old.reader.now.units }
         ensures gives { GivesClass (environment_of self.old.state.now) self.old.spans.now self.old.reader.now self.new.reader.now result }
         ensures steps { IsReading 6 (C.count self.old.steps.now) (C.count self.new.steps.now) self.old.reader.now self.new.reader.now result }
@@ -71,12 +92,15 @@ impl<C: Counter> Reading<'_, '_, '_, '_, '_, C> {
         if is_sets(self.state.mode()) {
             return Ok(Some(self.sets_mode_class()?));
         }
-        Ok(Some(self.items_class()?))
+        Ok(Some(self.items_class(contents)?))
     }
 
     /// Reads the class without `v` (CharacterClass and NonemptyClassRanges of ECMA-262, 22.2.1) whose `[` stands next, and moves
     /// over it.
-    fn items_class(&mut self) -> Result<CharacterClass, Fault>
+    fn items_class(
+        &mut self,
+        contents: &mut List<CharacterClassContents>,
+    ) -> Result<CharacterClass, Fault>
         requires bracket { starts ascii.left_bracket (values (rest self.old.reader.now)) ≡ true }
         requires no_sets { is_sets (environment_of self.old.state.now).mode ≡ false }
         requires environment { IsOfText (environment_of self.old.state.now) self.old.reader.now }
@@ -86,16 +110,17 @@ impl<C: Counter> Reading<'_, '_, '_, '_, '_, C> {
     {
         let start = self.offset();
         let negative = self.class_opener();
-        let mut body = List::new(self.alloc);
+        clear(contents);
         while !begins_with(self.units(), ']') {
             if self.peek().is_none() {
                 let span = self.span_from(start);
                 let what = Unterminated::CharacterClass;
                 return Err(Fault::Diagnostic(Diagnostic::UnterminatedPattern { span, what }));
             }
-            self.add_item(&mut body)?;
+            self.add_item(contents)?;
         }
         self.advance();
+        let body = take_out(contents)?;
         Ok(CharacterClass {
             span: self.span_from(start),
             negative,
@@ -117,3 +142,29 @@ impl<C: Counter> Reading<'_, '_, '_, '_, '_, C> {
         self.eat('^')
     }
 }
+
+/// Empties a list. Where it is empty already it keeps its memory.
+fn clear(contents: &mut List<CharacterClassContents>)
+    ensures { contents.new ≡ [] }
+{
+    if !contents.is_empty() {
+        *contents = List::new(contents.allocator());
+    }
+}
+
+/// Takes the contents out of a list: few into a list with memory for them alone, so that the memory of this one serves the next class;
+/// many with the memory that they have, so that they never take it twice.
+fn take_out(
+    contents: &mut List<CharacterClassContents>,
+) -> Result<List<CharacterClassContents>, OutOfMemory>
+    ensures { IfOk result (λ it. it ≡ contents.old) }
+{
+    if contents.len() <= FEW_CONTENTS {
+        return contents.take_all();
+    }
+    let next = List::new(contents.allocator());
+    Ok(std::mem::replace(contents, next))
+}
+
+/// How many contents of a class are few: most classes have no more.
+const FEW_CONTENTS: usize = 64;

@@ -1,17 +1,17 @@
-ghost use Rattle.std.specs.Prelude.{◌≡◌, ◌&&◌, ◌++◌, ◌∷◌, [], Err, IfErr, IfOk, Ok, OnOk, false, not, true};
+ghost use Rattle.std.specs.Prelude.{◌≡◌, ◌&&◌, ◌++◌, ◌∷◌, [], Err, IfErr, IfOk, IfSome, None, Ok, OnErr, OnOk, false, not};
 ghost use Rattle.rx_ast.specs.ClassTree as ClassTree;
 ghost use Rattle.rx_ast.specs.ClassTree.{mirror_contents};
 ghost use Rattle.rx_units.specs.Cursor.{rest};
-ghost use Rattle.rx_units.specs.Pace.{IsMove, TakesSteps};
+ghost use Rattle.rx_units.specs.Pace.{IsPaced, TakesSteps};
 ghost use Rattle.rx_units.specs.Units.{values};
 ghost use Rattle.rx_model.specs.Classes.ClassRows.{is_dashed};
 ghost use Rattle.rx_model.specs.Classes.ClassTokens.{is_character};
-ghost use Rattle.rx_model.specs.Inputs.Environment.{Environment, is_sets};
+ghost use Rattle.rx_model.specs.Inputs.Environment.{is_sets};
 ghost use Rattle.rx_class.specs.EscapeReading.Answers.{environment_of};
-ghost use Rattle.rx_class.specs.ClassReading.Items.{AddsItem, GivesItem, IsBetween, StandsItem, atom_member, atom_of, hyphen_member, item_contents, item_members, stands_alone, stands_range};
+ghost use Rattle.rx_class.specs.ClassReading.Items.{AddsItem, GivesItem, IsBetween, StandsItem, atom_member, atom_of, hyphen_member, item_contents, item_members};
 ghost use Rattle.rx_class.specs.Keeping.{KeepsUnits};
 
-use crate::classes::atom::ClassAtom;
+use crate::classes::atom::{ClassAtom, common_atom_at, tail};
 use crate::reading::Reading;
 use rx_ast::{Character, CharacterClassContents, CharacterClassRange, CharacterKind};
 use rx_base::{Counter, Diagnostic, Fault, List, OutOfMemory, RangeKind, Span};
@@ -42,70 +42,47 @@ impl<C: Counter> Reading<'_, '_, '_, '_, '_, C> {
         ensures steps { TakesSteps 6 (C.count self.old.steps.now) (C.count self.new.steps.now) self.old.reader.now self.new.reader.now result }
         ensures on { ReadsOn self.old self.new }
     {
-        if stands_alone(self.units()) {
-            let character = self.unit_character();
-            return Ok(self.push_one(body, CharacterClassContents::Character(character))?);
-        }
-        if stands_range(self.units()) {
-            let range = self.unit_range();
-            return Ok(self.push_one(body, range_contents(self.alloc, range)?)?);
+        if let Some(it) = self.common_item()? {
+            return Ok(body.push(it)?);
         }
         let item = self.class_item()?;
-        Ok(self.push_item(body, item)?)
+        Ok(push_item(body, item)?)
     }
 
-    /// Reads the range of two units that stands next, and moves over it.
-    fn unit_range(&mut self) -> CharacterClassRange
+    /// Reads the item that stands next where each of its atoms is a common one, and moves over it. Else it answers `None`, and nothing
+    /// changes.
+    #[inline(always)]
+    fn common_item(&mut self) -> Result<Option<CharacterClassContents>, OutOfMemory>
         requires stands { StandsItem (rest self.old.reader.now) }
-        requires range { stands_range (values (rest self.old.reader.now)) ≡ true }
-        ensures item { (e : Environment) (item : CharacterClassContents) → is_sets e.mode ≡ false → mirror_contents item ≡ ClassTree.range result
-            → GivesItem e self.old.spans.now self.old.reader.now self.new.reader.now (Ok (ClassItem.One item)) }
-        ensures reader { KeepsUnits self.old.reader.now self.new.reader.now }
-        ensures steps { IsMove (C.count self.old.steps.now) (C.count self.new.steps.now) self.old.reader.now self.new.reader.now }
+        requires no_sets { is_sets (environment_of self.old.state.now).mode ≡ false }
+        ensures gives { IfOk result (λ found. IfSome found (λ it. GivesItem (environment_of self.old.state.now) self.old.spans.now self.old.reader.now self.new.reader.now (Ok (ClassItem.One it)))) }
+        ensures none { IfOk result (λ found. found ≡ None → self.new ≡ self.old) }
+        ensures refused { OnErr result (KeepsUnits self.old.reader.now self.new.reader.now) }
+        ensures steps { IsPaced 6 (C.count self.old.steps.now) (C.count self.new.steps.now) self.old.reader.now self.new.reader.now }
         ensures on { ReadsOn self.old self.new }
     {
-        let min = self.unit_character();
+        let unicode = self.is_unicode();
+        let units = self.units();
+        let Some(low) = common_atom_at(units, unicode) else {
+            return Ok(None);
+        };
+        let after = tail(units, low.length);
+        if !is_dashed(after) {
+            let character = self.take_common(low);
+            return Ok(Some(CharacterClassContents::Character(character)));
+        }
+        let Some(high) = common_atom_at(tail(after, 1), unicode) else {
+            return Ok(None);
+        };
+        if high.value < low.value {
+            return Ok(None);
+        }
+        let min = self.take_common(low);
         self.advance();
-        let max = self.unit_character();
+        let max = self.take_common(high);
         let span = Span::new(min.span.start, max.span.end);
-        CharacterClassRange { span, min, max }
-    }
-
-    /// Adds an item to the contents of a class. Where it is all that the class holds, memory is taken for it alone.
-    #[inline]
-    fn push_one(
-        &self,
-        body: &mut List<CharacterClassContents>,
-        item: CharacterClassContents,
-    ) -> Result<(), OutOfMemory>
-        ensures { OnOk result (body.new ≡ body.old ++ item ∷ []) }
-    {
-        if body.is_empty() && self.peek() == Some(']' as u32) {
-            *body = List::with_capacity(body.allocator(), 1)?;
-        }
-        body.push(item)
-    }
-
-    /// Adds what an item is to the contents of a class, after which the reader stands.
-    fn push_item(
-        &self,
-        body: &mut List<CharacterClassContents>,
-        item: ClassItem,
-    ) -> Result<(), OutOfMemory>
-        ensures { OnOk result (body.new ≡ body.old ++ item_contents item) }
-    {
-        match item {
-            ClassItem::One(it) => self.push_one(body, it),
-            ClassItem::Three {
-                first,
-                hyphen,
-                last,
-            } => {
-                body.push(first)?;
-                body.push(hyphen)?;
-                body.push(last)
-            }
-        }
+        let range = CharacterClassRange { span, min, max };
+        Ok(Some(range_contents(self.alloc, range)?))
     }
 
     /// Reads the item that stands next in a class, an atom or a range (NonemptyClassRanges of ECMA-262, 22.2.1), and moves over it.
@@ -134,29 +111,22 @@ impl<C: Counter> Reading<'_, '_, '_, '_, '_, C> {
     }
 }
 
-/// Whether the first unit is an item by itself: it is no backslash, and what follows it is no `-`.
-#[inline]
-fn stands_alone(units: &[CodePoint]) -> bool
-    ensures { result ≡ stands_alone (values units.now) }
+/// Adds what an item is to the contents of a class.
+fn push_item(body: &mut List<CharacterClassContents>, item: ClassItem) -> Result<(), OutOfMemory>
+    ensures { OnOk result (body.new ≡ body.old ++ item_contents item) }
 {
-    match units {
-        [unit, next, ..] => unit.value != '\\' as u32 && next.value != '-' as u32,
-        _ => false,
+    match item {
+        ClassItem::One(it) => body.push(it),
+        ClassItem::Three {
+            first,
+            hyphen,
+            last,
+        } => {
+            body.push(first)?;
+            body.push(hyphen)?;
+            body.push(last)
+        }
     }
-}
-
-/// Whether the first three units are a range whose ends stand for themselves, in order.
-fn stands_range(units: &[CodePoint]) -> bool
-    ensures { result ≡ stands_range (values units.now) }
-{
-    let [low, hyphen, high, ..] = units else {
-        return false;
-    };
-    hyphen.value == '-' as u32
-        && low.value != '\\' as u32
-        && high.value != '\\' as u32
-        && high.value != ']' as u32
-        && low.value <= high.value
 }
 
 /// Whether two atoms with a `-` between are three items, with `u` or without.

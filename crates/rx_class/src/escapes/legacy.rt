@@ -15,7 +15,7 @@ use crate::EscapeFound;
 use crate::escapes::found::character;
 use rx_ast::CharacterKind;
 use rx_base::Counter;
-use rx_scan::Environment;
+use rx_scan::{Environment, four_hex_digits};
 use rx_tables::{is_decimal_digit, is_octal_digit, map_c_ascii_letter, map_hex_digit};
 use rx_units::CodePoint;
 
@@ -199,16 +199,7 @@ fn begin_with_two_hex_digits(units: &[CodePoint]) -> bool
 fn is_unicode(cp: u32, rest: &[CodePoint]) -> bool
     ensures { result ≡ (cp == ascii.u && is_some (four_next (values rest.now))) }
 {
-    cp == 'u' as u32 && begin_with_four_hex_digits(rest)
-}
-
-fn begin_with_four_hex_digits(units: &[CodePoint]) -> bool
-    ensures { result ≡ is_some (four_next (values units.now)) }
-{
-    match units {
-        [a, b, more @ ..] => are_hex_digits(a.value, b.value) && begin_with_two_hex_digits(more),
-        _ => false,
-    }
+    cp == 'u' as u32 && four_hex_digits(rest).is_some()
 }
 
 fn are_hex_digits(a: u32, b: u32) -> bool

@@ -15,7 +15,7 @@ ghost use Rattle.rx_class.specs.SetReading.Steps.{TakesStepsAfter, most_after_ba
 use crate::classes::atom::unit_kind;
 use crate::escapes::found::character;
 use crate::reading::Reading;
-use crate::{EscapeFound, character_escape_at};
+use crate::{EscapeFound, character_escape_at, common_escape_at};
 use rx_ast::{Character, CharacterKind};
 use rx_base::{Counter, Diagnostic, DigitsKind};
 use rx_tables::{
@@ -130,6 +130,10 @@ fn set_escape_at<C: Counter>(units: &[CodePoint], steps: &mut C) -> EscapeFound
     ensures within { IsWithin (length units.now) result }
     ensures steps { Rises (C.count steps.old) (C.count steps.new) 0 (most_looks true (length units.now) result) }
 {
+    if let Some(it) = common_escape_at(units, true) {
+        steps.add(it.length - 1);
+        return character(it.kind, it.value, it.length);
+    }
     let [first, ..] = units else {
         return EscapeFound::Nothing;
     };

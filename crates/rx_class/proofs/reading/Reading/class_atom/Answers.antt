@@ -1,11 +1,12 @@
-use Rattle.std.proofs.Common.{ap, sym, ◌∙◌}
-use Rattle.rx_class.proofs.Common.{values, starts, environment_of}
-use Rattle.rx_class.proofs.ClassReading.Atoms.{begins_otherwise}
+use Rattle.std.proofs.Common.{sym, subst}
+use Rattle.rx_class.proofs.Common.{IsCommonAtom, StandsItem, environment_of}
+use Rattle.rx_class.proofs.ClassReading.Atoms.{unit_common}
 use Rattle.rx_class.proofs.reading.Reading.class_atom.Goals as goal
 
-pub unit_character-requires-clause-no_backslash : goal.unit_character-requires-clause-no_backslash
-unit_character-requires-clause-no_backslash g c =
-    ap (λ us. starts 92 (values us)) (sym c.units.ensures.units) ∙ begins_otherwise c.units.result.now _ c.if-unit.false
-
-pub returns-clause-gives : goal.returns-clause-gives
-returns-clause-gives g c = c.unit_character.ensures.atom (environment_of c.args.self.now.state.now) c.requires.no_sets
+pub take_common-requires : goal.take_common-requires
+take_common-requires g c =
+    let e = environment_of c.args.self.now.state.now in
+    let unit = c.unit_atom.ensures in
+    let here = c.units.ensures.units in
+    subst (λ us. IsCommonAtom e us c.unit_atom.result) here
+    (unit_common e c.requires.no_sets c.units.result.now _ c.unit_atom.result (subst StandsItem (sym here) c.requires.stands) c.units.ensures.code_points c.if-unit.false unit.kind unit.value unit.length)
