@@ -2,10 +2,10 @@
 use Rattle.std.proofs.Common.{◌≡◌, refl, ap, ◌∙◌, ℕ, suc, ◌+◌, ◌<◌, ◌≤◌, List, [], ◌∷◌, ◌++◌, Bor, Option, Result, Ok, Err, length, drop, get_or, add-one, append-nil, append_assoc}
 use Rattle.std.proofs.Math.Seq.{drop-cons}
 use Rattle.std.proofs.lemmas.List.{drop_all}
-use Rattle.std.proofs.lemmas.Str.{encodes-append, encodes-chars, chars-nil}
+use Rattle.std.proofs.lemmas.Str.{encodes-append, encodes-chars, encodes-IsAscii, chars-nil}
 use Rattle.std.specs.Char.{encode_utf8}
 use Rattle.std.specs.List.{flat_map}
-use Rattle.std.specs.Str.{chars, IsUtf8}
+use Rattle.std.specs.Str.{chars, IsAscii, IsUtf8}
 use Rattle.std.specs.Result.{IsErr, IsErrAnd}
 use Rattle.rx_ast.proofs.Plain.{chars-plain}
 use Rattle.rx_base.specs.Writing.{Written}
@@ -24,12 +24,13 @@ pub utf8-chars : (bytes : List ℕ) → IsUtf8 bytes → utf8 (chars bytes) ≡ 
 unfolding utf8
 utf8-chars bytes text = encodes-chars bytes text
 
-pub utf8-cons : (c : ℕ) (cs : List ℕ) → utf8 (c ∷ cs) ≡ encode_utf8 c ++ utf8 cs
-unfolding utf8
-utf8-cons c cs = refl
-
 pub utf8-one : (c : ℕ) → utf8 (c ∷ []) ≡ encode_utf8 c
-utf8-one c = utf8-cons c [] ∙ ap (λ bytes. encode_utf8 c ++ bytes) utf8-nil ∙ append-nil (encode_utf8 c)
+unfolding utf8
+utf8-one c = append-nil (encode_utf8 c)
+
+pub utf8-ascii : (bytes : List ℕ) → IsAscii bytes → utf8 bytes ≡ bytes
+unfolding utf8
+utf8-ascii bytes ascii = encodes-IsAscii bytes ascii
 
 -- one character is written
 pub one_character : {K T E : Type 0} {taken : K → Option (List ℕ)} {fixed : K → List ℕ} {faults : K → ℕ} {old new : K} {result : Result T E} (c : ℕ) →
@@ -45,8 +46,8 @@ pub pieces_none : (ps : List (Bor (List ℕ))) (i : ℕ) → length ps ≤ i →
 pieces_none ps i h = rw (drop_all i ps) utf8-nil
 
 -- the characters from an index on
-pub characters_next : (cs : List ℕ) (i c : ℕ) → i < length cs → c ≡ get_or cs i c → utf8 (drop i cs) ≡ encode_utf8 c ++ utf8 (drop (i + 1) cs)
-characters_next cs i c h e = rw (add-one, drop-cons cs i c, ← e) (utf8-cons c (drop (suc i) cs))
+pub characters_next : (cs : List ℕ) (i c : ℕ) → i < length cs → c ≡ get_or cs i c → utf8 (drop i cs) ≡ utf8 (c ∷ []) ++ utf8 (drop (i + 1) cs)
+characters_next cs i c h e = rw (add-one, drop-cons cs i c, ← e) (utf8-append (c ∷ []) (drop (suc i) cs))
 
 pub failed_from : {T E : Type 0} (result : Result T E) (P : E → Type 0) → IsErrAnd result P → IsErr result
 failed_from (Ok x) P cause = absurd cause

@@ -1,15 +1,15 @@
 ghost use Rattle.std.specs.Prelude.{◌≡◌, true, false, map};
 ghost use Rattle.rx_ast.specs.ClassTree.{members, mirror_contents, mirror_class, range, strings as disjunction};
 ghost use Rattle.rx_base.specs.Writing.{Written};
-ghost use Rattle.rx_ast.specs.Texts.{operator_text as operator};
+ghost use Rattle.rx_ast.specs.Texts.{class_opener, operator_text as operator};
 ghost use Rattle.rx_model.specs.Spelling.ClassText.{member_text, members_text, class_text, characters_text, strings_text, barred_strings_text};
 ghost use Rattle.rx_tools.specs.Leaves.{is_nested as is_class, is_flat as flat};
 ghost use Rattle.rx_tools.specs.Utf8.{utf8};
 
 use crate::character::{Place, write_character};
 use crate::property::write_property;
-use crate::write::write_str;
-use rx_ast::parts::{class_escape_text, class_opener, operator_text};
+use crate::write::{write_char, write_str};
+use rx_ast::parts::{class_escape_text, operator_text};
 use rx_ast::{
     Character, CharacterClass, CharacterClassContents, CharacterClassContentsKind,
     CharacterClassRange, ClassString, ClassStringDisjunction,
@@ -17,6 +17,21 @@ use rx_ast::{
 use rx_base::{Failed, TextSink};
 use rx_model::Mode;
 
+/// Writes the bracket that opens a class, and `^` after it where the class is negative.
+#[inline(always)]
+pub fn write_opener<W: TextSink>(sink: &mut W, negative: bool) -> Result<(), Failed>
+    ensures { Written W.taken W.fixed W.faults sink.old sink.new result (utf8 (class_opener negative)) }
+{
+    if negative {
+        write_char(sink, '[')?;
+        write_char(sink, '^')
+    } else {
+        write_char(sink, '[')
+    }
+}
+
+/// Writes a range.
+#[inline(always)]
 fn write_range<W: TextSink>(
     sink: &mut W,
     mode: Mode,
@@ -25,7 +40,7 @@ fn write_range<W: TextSink>(
     ensures { Written W.taken W.fixed W.faults sink.old sink.new result (utf8 (member_text mode (range it.now))) }
 {
     write_character(sink, mode, Place::InClass, it.min.value)?;
-    write_str(sink, "-")?;
+    write_char(sink, '-')?;
     write_character(sink, mode, Place::InClass, it.max.value)
 }
 
@@ -51,7 +66,7 @@ fn write_barred_strings<W: TextSink>(
     ensures { Written W.taken W.fixed W.faults sink.old sink.new result (utf8 (barred_strings_text mode strings.now)) }
 {
     for string in strings {
-        write_str(sink, "|")?;
+        write_char(sink, '|')?;
         write_characters(sink, mode, string.body.as_slice())?;
     }
     Ok(())
@@ -83,7 +98,7 @@ fn write_string_disjunction<W: TextSink>(
 {
     write_str(sink, "\\q{")?;
     write_strings(sink, mode, it.body.as_slice())?;
-    write_str(sink, "}")
+    write_char(sink, '}')
 }
 
 #[inline]
@@ -140,7 +155,8 @@ pub fn write_flat_contents<W: TextSink>(
     }
 }
 
-/// Writes one of a class's contents.
+/// Writes one of a class's contents. Most are characters and ranges, so it is inlined for these alone.
+#[inline(always)]
 #[cycle(class)]
 #[tactic(auto, using(rx_ast::proofs::ClassSizes::class_sizes, rx_ast::proofs::ClassEquations::class_mirrors))]
 fn write_contents<W: TextSink>(
@@ -151,15 +167,17 @@ fn write_contents<W: TextSink>(
     ensures { Written W.taken W.fixed W.faults sink.old sink.new result (utf8 (member_text mode (mirror_contents contents.now))) }
 {
     match contents {
+        CharacterClassContents::Character(it) => {
+            write_character(sink, mode, Place::InClass, it.value)
+        }
+        CharacterClassContents::CharacterClassRange(it) => write_range(sink, mode, it),
         CharacterClassContents::NestedCharacterClass(it) => write_class(sink, mode, it),
-        CharacterClassContents::CharacterClassRange(_) => write_flat_contents(sink, mode, contents),
         CharacterClassContents::CharacterClassEscape(_) => {
             write_flat_contents(sink, mode, contents)
         }
         CharacterClassContents::UnicodePropertyEscape(_) => {
             write_flat_contents(sink, mode, contents)
         }
-        CharacterClassContents::Character(_) => write_flat_contents(sink, mode, contents),
         CharacterClassContents::ClassStringDisjunction(_) => {
             write_flat_contents(sink, mode, contents)
         }
@@ -197,7 +215,7 @@ pub fn write_class<W: TextSink>(
 ) -> Result<(), Failed>
     ensures { Written W.taken W.fixed W.faults sink.old sink.new result (utf8 (class_text mode (mirror_class class.now))) }
 {
-    write_str(sink, class_opener(class.negative))?;
+    write_opener(sink, class.negative)?;
     write_all_contents(sink, mode, class.kind, class.body.as_slice())?;
-    write_str(sink, "]")
+    write_char(sink, ']')
 }

@@ -11,9 +11,9 @@ ghost use Rattle.rx_tools.specs.Leaves.{is_nested as is_class};
 ghost use Rattle.rx_tools.specs.Utf8.{utf8};
 ghost use Rattle.rx_tools.specs.Writes.{writes};
 
-use crate::class::write_flat_contents;
-use crate::write::write_str;
-use rx_ast::parts::{class_opener, operator_text};
+use crate::class::{write_flat_contents, write_opener};
+use crate::write::{write_char, write_str};
+use rx_ast::parts::operator_text;
 use rx_ast::{CharacterClass, CharacterClassContents, CharacterClassContentsKind};
 use rx_base::{Failed, OutOfMemory, TextSink};
 use rx_model::Mode;
@@ -86,9 +86,9 @@ fn open_class<'a, W: TextSink>(
     ensures text { IfOk result (λ next. Goes (writes W.taken) sink.old sink.new (class_text mode (mirror_class class.now)) (texts_of class_task_text next)) }
     ensures lighter { IfOk result (λ next. sum_by class_task_weight (tasks_of next) < 1 + 2 * all_contents_size class.now.body) }
 {
-    write_str(sink, class_opener(class.negative))?;
+    write_opener(sink, class.negative)?;
     let Some((first, others)) = class.body.as_slice().split_first() else {
-        write_str(sink, "]")?;
+        write_char(sink, ']')?;
         return Ok(Next::Nothing);
     };
     write_or_put_back(sink, mode, first, ClassTask::Rest(mode, class.kind, others))
@@ -105,7 +105,7 @@ fn write_rest<'a, W: TextSink>(
     ensures lighter { IfOk result (λ next. sum_by class_task_weight (tasks_of next) < 1 + 2 * all_contents_size contents.now) }
 {
     let Some((first, others)) = contents.split_first() else {
-        write_str(sink, "]")?;
+        write_char(sink, ']')?;
         return Ok(Next::Nothing);
     };
     write_str(sink, operator_text(kind))?;

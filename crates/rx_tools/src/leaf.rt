@@ -11,7 +11,7 @@ use crate::class::{is_flat, write_class};
 use crate::property::write_property;
 use crate::quantifier::write_quantifier;
 use crate::term::{refers, write_indexed, write_named};
-use crate::write::write_str;
+use crate::write::{write_char, write_str};
 use rx_ast::parts::{boundary_text, class_escape_text};
 use rx_ast::{Quantifier, Term};
 use rx_base::{Failed, TextSink};
@@ -65,7 +65,7 @@ pub fn write_leaf<W: TextSink>(
             write_character(sink, mode, Place::Outside(after_reference), it.value)
         }
         Term::BoundaryAssertion(it) => write_str(sink, boundary_text(it.kind)),
-        Term::Dot(_) => write_str(sink, "."),
+        Term::Dot(_) => write_char(sink, '.'),
         Term::CharacterClassEscape(it) => write_str(sink, class_escape_text(it.kind)),
         Term::UnicodePropertyEscape(it) => write_property(sink, it),
         Term::CharacterClass(it) => write_class(sink, mode, it),
@@ -92,13 +92,35 @@ fn write_quantified_leaf<W: TextSink>(
     write_quantifier(sink, it.min, it.max, it.greedy)
 }
 
-/// Writes the term if nothing nests in it or, of a quantifier, in its body, and answers whether it did.
+/// Writes the term if nothing nests in it or, of a quantifier, in its body, and answers whether it did. Most terms are characters,
+/// so it is inlined for these alone.
 #[inline(always)]
+#[tactic(auto, using(rx_ast::proofs::Equations::mirrors))]
 fn write_if_leaf<W: TextSink>(
     sink: &mut W,
     mode: Mode,
     after_reference: bool,
     term: &Term,
+) -> Result<bool, Failed>
+    ensures { Written W.taken W.fixed W.faults sink.old sink.new result (utf8 (unless_left result (node_text mode after_reference (mirror_term term.now)))) }
+{
+    match term {
+        Term::Character(it) => {
+            write_character(sink, mode, Place::Outside(after_reference), it.value)?;
+            Ok(true)
+        }
+        _ => write_if_other_leaf(sink, mode, term, after_reference),
+    }
+}
+
+/// Writes the term, which need not be a character, if nothing nests in it or, of a quantifier, in its body, and answers whether it
+/// did.
+#[inline(never)]
+fn write_if_other_leaf<W: TextSink>(
+    sink: &mut W,
+    mode: Mode,
+    term: &Term,
+    after_reference: bool,
 ) -> Result<bool, Failed>
     ensures { Written W.taken W.fixed W.faults sink.old sink.new result (utf8 (unless_left result (node_text mode after_reference (mirror_term term.now)))) }
 {
@@ -117,6 +139,7 @@ fn write_if_leaf<W: TextSink>(
 
 /// Writes the terms before the first that is neither a term in which nothing nests nor such a term with its quantifier, and
 /// answers what is left.
+#[inline(always)]
 pub fn write_leaves<'a, W: TextSink>(
     sink: &mut W,
     mode: Mode,

@@ -18,7 +18,7 @@ use crate::leaf::{Rest, write_leaf, write_leaves};
 use crate::quantifier::write_quantifier;
 use crate::task::{Body, Task, lone_body, task_of, whole_body};
 use crate::term::{refers, write_capturing, write_ignoring};
-use crate::write::write_str;
+use crate::write::{write_char, write_str};
 use rx_ast::parts::look_text;
 use rx_ast::{Disjunction, Pattern, Quantifier, Term};
 use rx_base::{Failed, List, OutOfMemory, Text, TextSink};
@@ -100,7 +100,11 @@ fn write_task<'a, W: TextSink>(
 fn write_closer<W: TextSink>(sink: &mut W, closes: bool) -> Result<(), Failed>
     ensures { Written W.taken W.fixed W.faults sink.old sink.new result (utf8 (closer_text closes)) }
 {
-    if closes { write_str(sink, ")") } else { Ok(()) }
+    if closes {
+        write_char(sink, ')')
+    } else {
+        Ok(())
+    }
 }
 
 #[inline(always)]
@@ -157,7 +161,7 @@ fn write_leading<'a, W: TextSink>(sink: &mut W, body: Body<'a>) -> Result<Body<'
                 more: left.more,
             });
         }
-        write_str(sink, "|")?;
+        write_char(sink, '|')?;
         left = whole_body(left.mode, left.more);
     }
 }

@@ -9,7 +9,7 @@ use crate::class::write_class;
 use crate::leaf::{Rest, write_leaf, write_leaves};
 use crate::quantifier::write_quantifier;
 use crate::term::{refers, write_capturing, write_ignoring};
-use crate::write::write_str;
+use crate::write::{write_char, write_str};
 use rx_ast::parts::look_text;
 use rx_ast::{Alternative, Disjunction, Pattern, Quantifier, Term};
 use rx_base::{Failed, Sink, TextSink};
@@ -124,5 +124,5 @@ fn write_group<W: TextSink>(sink: &mut W, mode: Mode, body: &Disjunction) -> Res
     ensures { Written W.taken W.fixed W.faults sink.old sink.new result (utf8 (alternatives_text mode (mirror_disjunction body.now).1 ++ codes ")")) }
 {
     write_alternatives(sink, mode, body.body.as_slice())?;
-    write_str(sink, ")")
+    write_char(sink, ')')
 }

@@ -6,7 +6,7 @@ ghost use Rattle.rx_model.specs.Spelling.Spelling.{refers as reference};
 ghost use Rattle.rx_tools.specs.Utf8.{utf8};
 
 use crate::quantifier::decimal_text;
-use crate::write::{write_pieces, write_str};
+use crate::write::{write_char, write_pieces, write_str};
 use itoa::Buffer;
 use rx_ast::parts::{dash, letters};
 use rx_ast::{Modifiers, Term};
@@ -17,7 +17,7 @@ pub fn write_capturing<W: TextSink>(sink: &mut W, name: &Option<Text>) -> Result
     ensures { Written W.taken W.fixed W.faults sink.old sink.new result (utf8 (opener_text (capturing name.now))) }
 {
     match name {
-        None => write_str(sink, "("),
+        None => write_char(sink, '('),
         Some(name) => write_pieces(sink, &["(?<", name.as_str(), ">"]),
     }
 }
@@ -55,6 +55,7 @@ pub fn write_named<W: TextSink>(sink: &mut W, name: &Text) -> Result<(), Failed>
 }
 
 /// Whether the term is an unquantified indexed reference.
+#[inline(always)]
 #[tactic(auto, using(rx_ast::proofs::Equations::mirrors))]
 pub fn refers(term: &Term) -> bool
     ensures { result ≡ reference (mirror_term term.now) }

@@ -13,7 +13,7 @@ returns-in_err-write_hex g t c = rw (hex_more c.args.places c.args.n c.if-places
 
 pub returns : goal.returns
 returns g t c = elim c.if-n-ge16.branch [
-  | then-n-ge16+in_ok-write_hex w ↦ rw (hex_more c.args.places c.args.n c.if-places-eq0.false w.if-n-ge16.true, ← c.hex_digit.ensures)
-      (text_then _ _ w.in_ok-write_hex.ensures (rw (← w.sink-is) c.write_chars.ensures))
-  | else-n-ge16 w ↦ rw (hex_one c.args.places c.args.n c.if-places-eq0.false w.if-n-ge16.false, ← c.hex_digit.ensures) (rw (← w.sink-is) c.write_chars.ensures)
+  | then-n-ge16+in_ok-write_hex w ↦ rw (hex_more c.args.places c.args.n c.if-places-eq0.false w.if-n-ge16.true, ← c.hex_digit.ensures.text)
+      (text_then _ _ w.in_ok-write_hex.ensures (rw (← w.sink-is) c.write_ascii.ensures))
+  | else-n-ge16 w ↦ rw (hex_one c.args.places c.args.n c.if-places-eq0.false w.if-n-ge16.false, ← c.hex_digit.ensures.text) (rw (← w.sink-is) c.write_ascii.ensures)
 ]

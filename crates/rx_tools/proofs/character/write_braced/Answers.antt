@@ -16,4 +16,4 @@ returns-in_err-write_hex g c =
 
 pub returns : goal.returns
 unfolding in_braces_text chars
-returns g c = text_then (codes "\\u{") (hex 8 c.args.c ++ codes "}") c.in_ok-write_str.ensures (text_then (hex 8 c.args.c) (codes "}") c.in_ok-write_hex.ensures c.write_str-2.ensures)
+returns g c = text_then (codes "\\u{") (hex 8 c.args.c ++ codes "}") c.in_ok-write_str.ensures (text_then (hex 8 c.args.c) (codes "}") c.in_ok-write_hex.ensures c.write_char.ensures)

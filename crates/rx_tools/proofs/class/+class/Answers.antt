@@ -43,17 +43,16 @@ pub write_all_contents-returns : goal.write_all_contents-returns
 write_all_contents-returns g t c =
     left_none _ c.loop-contents.invariant.written (ap utf8 (contents_none c.args.mode (chars c.loop-contents.before.now) (operator_text c.args.kind) c.args.all_contents.now c.loop-contents.contents-index c.loop-contents-test.false) ∙ utf8-nil)
 
-pub write_class-returns-in_err-write_str : goal.write_class-returns-in_err-write_str
-write_class-returns-in_err-write_str g t c =
-    same_text (class_texts c.args.mode c.args.class.now) (text_stop _ _ (rw c.class_opener.ensures at c.in_err-write_str.ensures) (failed_from _ _ c.from_residual.ensures.1))
+pub write_class-returns-in_err-write_opener : goal.write_class-returns-in_err-write_opener
+write_class-returns-in_err-write_opener g t c =
+    same_text (class_texts c.args.mode c.args.class.now) (text_stop _ _ c.in_err-write_opener.ensures (failed_from _ _ c.from_residual.ensures.1))
 
 pub write_class-returns-in_err-write_all_contents : goal.write_class-returns-in_err-write_all_contents
 write_class-returns-in_err-write_all_contents g t c =
-    same_text (class_texts c.args.mode c.args.class.now) (text_then _ _ (rw c.class_opener.ensures at c.in_ok-write_str.ensures)
+    same_text (class_texts c.args.mode c.args.class.now) (text_then _ _ c.in_ok-write_opener.ensures
     (text_stop _ _ (rw c.as_slice.ensures at c.in_err-write_all_contents.ensures) (failed_from _ _ c.from_residual-in_err-write_all_contents.ensures.1)))
 
 pub write_class-returns : goal.write_class-returns
-unfolding chars
 write_class-returns g t c =
-    same_text (class_texts c.args.mode c.args.class.now) (text_then _ _ (rw c.class_opener.ensures at c.in_ok-write_str.ensures)
-    (text_then _ _ (rw c.as_slice.ensures at c.in_ok-write_all_contents.ensures) c.write_str-2.ensures))
+    same_text (class_texts c.args.mode c.args.class.now) (text_then _ _ c.in_ok-write_opener.ensures
+    (text_then _ _ (rw c.as_slice.ensures at c.in_ok-write_all_contents.ensures) c.write_char.ensures))

@@ -18,4 +18,4 @@ pub returns : goal.returns
 unfolding chars
 returns g c =
     text_then (codes "\\q{") (strings_text c.args.mode c.args.it.now.body ++ codes "}") c.in_ok-write_str.ensures
-    (text_then (strings_text c.args.mode c.args.it.now.body) (codes "}") (rw c.as_slice.ensures at c.in_ok-write_strings.ensures) c.write_str-2.ensures)
+    (text_then (strings_text c.args.mode c.args.it.now.body) (codes "}") (rw c.as_slice.ensures at c.in_ok-write_strings.ensures) c.write_char.ensures)

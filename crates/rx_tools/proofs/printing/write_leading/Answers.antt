@@ -1,6 +1,5 @@
 use Rattle.std.proofs.Common.{◌≡◌, refl, ap, sym, ◌∙◌, ◌++◌, arith, codes, length, map, rules}
 use Rattle.std.proofs.lemmas.List.{nil_from_length}
-use Rattle.std.specs.Str.{chars}
 use Rattle.rx_ast.specs.Tree.{mirror_term, nodes}
 use Rattle.rx_display.specs.Tasks.{tree_of}
 use Rattle.rx_model.specs.Spelling.Spelling.{barred_text, nodes_text}
@@ -13,7 +12,6 @@ pub loop-rest-init : goal.loop-rest-init
 loop-rest-init g c = record { text = goes_none (no_text g.W.TextSink.taken _) refl; lighter = omega arith }
 
 pub loop-rest-preserved : goal.loop-rest-preserved
-unfolding chars
 loop-rest-preserved g c =
     let both = composes g.W.TextSink.taken in
     let left = c.loop-rest.left in
@@ -26,7 +24,7 @@ loop-rest-preserved g c =
     let one = goes_then both c.loop-rest.invariant.text (goes_after more (record { front = leaves.0; cut = leaves.2; written = leaves.1 })) in
     let weighs = c.loop-rest.invariant.lighter in
     record {
-      text = goes_then both one (record { front = codes "|"; cut = ends ∙ ap (λ text. codes "|" ++ text) (sym c.whole_body-left.ensures.text); written = c.in_ok-write_str.ensures.whole });
+      text = goes_then both one (record { front = codes "|"; cut = ends ∙ ap (λ text. codes "|" ++ text) (sym c.whole_body-left.ensures.text); written = c.in_ok-write_char.ensures.whole });
       lighter = omega arith;
     }
 

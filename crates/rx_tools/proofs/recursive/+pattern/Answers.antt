@@ -55,8 +55,7 @@ write_group-returns-in_err-write_alternatives g t c =
     same_text (ap (λ d. alternatives_text c.args.mode d.1 ++ codes ")") (disjunction_is c.args.body.now)) (text_stop _ _ (rw c.as_slice.ensures at c.in_err-write_alternatives.ensures) (failed_from _ _ c.from_residual.ensures.1))
 
 pub write_group-returns : goal.write_group-returns
-unfolding chars
-write_group-returns g t c = same_text (ap (λ d. alternatives_text c.args.mode d.1 ++ codes ")") (disjunction_is c.args.body.now)) (text_then _ (codes ")") (rw c.as_slice.ensures at c.in_ok-write_alternatives.ensures) c.write_str.ensures)
+write_group-returns g t c = same_text (ap (λ d. alternatives_text c.args.mode d.1 ++ codes ")") (disjunction_is c.args.body.now)) (text_then _ (codes ")") (rw c.as_slice.ensures at c.in_ok-write_alternatives.ensures) c.write_char.ensures)
 
 pub write_quantified-returns-in_err-write_term : goal.write_quantified-returns-in_err-write_term
 write_quantified-returns-in_err-write_term g t c =

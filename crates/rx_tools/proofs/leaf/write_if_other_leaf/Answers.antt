@@ -4,7 +4,7 @@ use Rattle.rx_ast.proofs.Equations.{quantifier_term_is}
 use Rattle.rx_model.specs.Spelling.Spelling.{node_text}
 use Rattle.rx_tools.proofs.Leaves.{nothing_written, other_answer, unless_failed}
 use Rattle.rx_tools.proofs.Pieces.{same_text, failed_from}
-use Rattle.rx_tools.proofs.leaf.write_if_leaf.Goals as goal
+use Rattle.rx_tools.proofs.leaf.write_if_other_leaf.Goals as goal
 
 pub returns-in_err-write_quantified_leaf-in-Quantifier :
     goal.returns-in_err-write_quantified_leaf-in-Quantifier
