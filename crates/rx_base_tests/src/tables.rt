@@ -151,14 +151,14 @@ const SETS: &str = "syntax,syntax of classes,twice,reserved,decimal,octal,of nam
 
 #[test]
 fn no_set_past_ascii(rt: HostRuntime) -> Result<(), Fail> {
-    let rows = "80 => true - - -
-124 => true - - -
-130 => true - - -
-161 => true - - -
-D800 => true - - -
-DFFF => true - - -
-10FFFF => true - - -
-110000 => false - - -";
+    let rows = "80 => true - - - -
+124 => true - - - -
+130 => true - - - -
+161 => true - - - -
+D800 => true - - - -
+DFFF => true - - - -
+10FFFF => true - - - -
+110000 => false - - - -";
     agree(rt.alloc(), &PastAscii, rows)
 }
 
