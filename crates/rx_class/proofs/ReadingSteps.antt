@@ -1,10 +1,9 @@
 -- How many steps it takes to look at what stands next, and to move over it.
-use Rattle.std.proofs.Common.{◌≡◌, ℕ, ◌+◌, ◌*◌, ◌≤◌, Bool, true, false, if◌then◌else◌, Option, Result, Ok, List, length, refl, ap, ◌∙◌, arith, length-drop}
-use Rattle.rx_class.proofs.Common.{Diagnostic, Rises, Character, CodePoint, Cursor, move_on, rest, IsPaced, units_left, Environment, GivesItem, AnswersFound, IsWithin, many_digits}
-use Rattle.rx_class.proofs.Common.{no_escape_of_u, seen_escape, IsReading, ClassItem, EscapeFound}
+use Rattle.std.proofs.Common.{◌≡◌, ℕ, ◌+◌, ◌*◌, ◌≤◌, Bool, true, false, if◌then◌else◌, Option, Result, List, length, refl, ap, ◌∙◌, arith, length-drop}
+use Rattle.rx_class.proofs.Common.{Diagnostic, Rises, Character, CodePoint, Cursor, move_on, rest, IsPaced, units_left, AnswersFound, IsWithin, many_digits}
+use Rattle.rx_class.proofs.Common.{no_escape_of_u, seen_escape, IsReading, EscapeFound}
 use Rattle.rx_units.specs.Pace.{IsMove}
 use Rattle.rx_model.specs.Reading.Fronts.{EscapeRead}
-use Rattle.rx_class.specs.ClassReading.Items as items
 use Rattle.rx_class.specs.EscapeReading.Steps.{few_looks}
 use Rattle.rx_class.specs.EscapeReading.Found.{none, some}
 use Rattle.rx_class.specs.declared.escapes.found.EscapeFound.TheVariants as found
@@ -31,10 +30,6 @@ looked_then_moved n old new a b c within is least most moves =
 
 pub only_moved : (n : ℕ) (old new : Cursor) (a b : ℕ) → new ≡ move_on n old → IsMove a b old new → IsPaced 6 a b old new
 only_moved n old new a b is moves = let less = no_more n old new is in (omega (arith, less, moves), omega (arith, less, moves))
-
--- An item and a class that are answered are moved over.
-pub item_paced : {e : Environment} {added : ℕ} {old new : Cursor} {it : ClassItem} (a b : ℕ) → GivesItem e added old new (Ok it) → IsMove a b old new → IsPaced 6 a b old new
-item_paced {old = old} {new = new} a b (items.some w more h k is) moves = only_moved (length w) old new a b is moves
 
 -- One unit is moved over, or none.
 pub eaten_paced : (eaten : Bool) (old new : Cursor) (a b : ℕ) → new ≡ (if eaten then move_on 1 old else old) → IsMove a b old new → IsPaced 6 a b old new

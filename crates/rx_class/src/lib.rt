@@ -7,7 +7,7 @@ mod properties;
 mod reading;
 mod sets;
 
-pub use classes::atom::{tail, unit_kind};
+pub use classes::atom::unit_kind;
 pub use classes::class::{parse_character_class, parse_character_class_with_list};
 pub use escapes::common::{CommonEscape, common_escape_at};
 pub use escapes::escape::{parse_character_class_escape, parse_character_escape};

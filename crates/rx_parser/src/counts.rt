@@ -8,9 +8,8 @@ ghost use Rattle.rx_parser.specs.Pace.{count_looks, plain};
 
 use crate::ahead::number_at;
 use rx_base::Counter;
-use rx_class::tail;
 use rx_tables::is_decimal_digit;
-use rx_units::CodePoint;
+use rx_units::{CodePoint, tail};
 
 /// Decimal digits, read as a number of 64 bits.
 #[derive(Clone, Copy, Debug)]

@@ -14,8 +14,7 @@ use crate::ahead::stands_at;
 use crate::found::{Found, Halt, ModifiersFault, OpenerFound};
 use rx_ast::Modifier;
 use rx_base::Counter;
-use rx_class::tail;
-use rx_units::CodePoint;
+use rx_units::{CodePoint, tail};
 
 /// The two sides of modifiers (RegularExpressionModifiers of ECMA-262, 22.2.1) that stand next, and how many units both are, a `-` among them.
 #[derive(Clone, Copy)]

@@ -12,9 +12,8 @@ ghost use Rattle.rx_parser.specs.declared.name.NameFound.{NameFound};
 
 use crate::found::Halt;
 use rx_base::{Counter, is_lead_surrogate, is_trail_surrogate};
-use rx_class::tail;
 use rx_scan::{UnicodeEscape, decode_counted, group_name_length_counted};
-use rx_units::CodePoint;
+use rx_units::{CodePoint, tail};
 
 /// What stands after `(?<` or `\k<`.
 #[derive(Clone, Copy, Debug)]

@@ -1,7 +1,9 @@
 -- Steps of the loops that read a class and a name.
-use Rattle.std.proofs.Common.{◌≡◌, refl, ap, sym, ◌∙◌, subst, ℕ, zero, suc, ◌+◌, ◌-◌, ◌<◌, Bool, true, false, cond, not, ◌==◌, ◌&&◌, ◌||◌, Some, None, List, [], ◌∷◌, ◌++◌, take, drop, get_or, drop-cons, add-one, append_assoc, append-nil, length, eqb-true, arith}
+use Rattle.std.proofs.Common.{◌≡◌, refl, ap, sym, ◌∙◌, subst, ℕ, zero, suc, ◌+◌, ◌-◌, ◌<◌, Bool, true, false, cond, not, ◌==◌, ◌&&◌, ◌||◌, Some, None, List, [], ◌∷◌, ◌++◌, take, drop, get_or, drop-cons, add-one, append_assoc, append-nil, length, length-drop, eqb-true, ◌≤◌, arith}
 use Rattle.std.proofs.Math.Seq.{drop-length}
-use Rattle.std.proofs.lemmas.List.{map-append}
+use Rattle.std.proofs.lemmas.List.{get_or-drop, map-append, take_all}
+use Rattle.std.proofs.lemmas.List.Sums.{prefix_len_stops}
+use Rattle.std.specs.List.{prefix_len}
 use Rattle.rx_units.specs.declared.code_point.CodePoint.{CodePoint}
 use Rattle.rx_units.specs.declared.code_point.EscapeKind.TheVariants as kind
 use Rattle.rx_units.specs.Units.{unit, values}
@@ -68,7 +70,7 @@ class_step : (mode : Mode) (us : List CodePoint) (i n m : ℕ) (d : CodePoint) (
 class_step mode us i n m d escaped h step e = let g = ap (class_rest mode false n) (values_at us i d h) in omega arith
 
 module _ (mode : Mode) (us : List CodePoint) (i n : ℕ) (d : CodePoint) (h : i < length us) (no_closer : ((get_or us i d).value == 93) ≡ false) (no_bracket : ((get_or us i d).value == 91 && is_sets mode) ≡ false) where
-  pub class_plain : IsInClass mode us i false n → IsInClass mode us (i + 1) ((get_or us i d).value == 92) n
+  class_plain : IsInClass mode us i false n → IsInClass mode us (i + 1) ((get_or us i d).value == 92) n
   class_plain e =
       class_step mode us i n n d ((get_or us i d).value == 92) h (rest_plain mode n (get_or us i d).value (values (drop (i + 1) us)) no_closer no_bracket) e
 
@@ -137,3 +139,20 @@ pub values_drop : (n : ℕ) (us : List CodePoint) → values (drop n us) ≡ dro
 values_drop zero us = refl
 values_drop (suc n) [] = refl
 values_drop (suc n) (u ∷ us) = values_drop n us
+
+-- what is left at a place, and the unit that stands first there
+module _ (us vs : List CodePoint) (at : ℕ) (left : vs ≡ drop at us) where
+  pub left_length : length vs ≡ length us - at
+  left_length = ap length left ∙ length-drop at us
+
+  pub left_front : (d : CodePoint) → 1 ≤ length vs → drop at (values us) ≡ (get_or vs 0 d).value ∷ values (take (length vs - 1) (drop 1 vs))
+  left_front d some = sym (values_drop at us) ∙ ap values (sym left) ∙ values_at vs 0 d some ∙ ap (λ ws. (get_or vs 0 d).value ∷ values ws) (sym (take_all (length vs - 1) (drop 1 vs) (omega (arith, length-drop 1 vs))))
+
+  -- after those that open and close nothing it is no such unit
+  pub front_stops : (from n : ℕ) (ws : List CodePoint) (d : CodePoint) → from + n ≡ at → ws ≡ drop from us → n ≡ prefix_len (λ unit. is_plain unit.value) ws → 1 ≤ length vs → is_plain (get_or vs 0 d).value ≡ false
+  front_stops from n ws d at_is ws_are is some =
+      let long : length ws ≡ length us - from = ap length ws_are ∙ length-drop from us in
+      let here : get_or vs 0 d ≡ get_or ws n d =
+      ap (λ xs. get_or xs 0 d) left ∙ get_or-drop at us 0 d ∙ ap (λ i. get_or us i d) (omega (arith, at_is)) ∙ sym (get_or-drop from us n d) ∙ ap (λ xs. get_or xs n d) (sym ws_are) in
+      ap (λ (u : CodePoint). is_plain u.value) here ∙ ap (λ i. is_plain (get_or ws i d).value) is
+      ∙ prefix_len_stops (λ (unit : CodePoint). is_plain unit.value) ws d (omega (arith, sym is, long, left_length, at_is, some))

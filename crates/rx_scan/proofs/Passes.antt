@@ -1,6 +1,7 @@
 -- One more mark of the first pass.
-use Rattle.std.proofs.Common.{◌≡◌, refl, ap, ap₂, sym, ◌∙◌, subst, ℕ, zero, suc, ◌+◌, ◌<◌, ◌≤◌, Bool, true, false, cond, not, ◌&&◌, ◌||◌, ◌==◌, Option, Some, None, List, [], ◌∷◌, ◌++◌, append_assoc, append-nil, drop, get_or, length, arith, ◌⊎◌, inl, inr, map}
+use Rattle.std.proofs.Common.{◌≡◌, refl, ap, ap₂, sym, ◌∙◌, subst, ℕ, zero, suc, ◌+◌, ◌-◌, ◌<◌, ◌≤◌, Bool, true, false, cond, not, ◌&&◌, ◌||◌, ◌==◌, Option, Some, None, List, [], ◌∷◌, ◌++◌, append_assoc, append-nil, drop, get_or, length, length-drop, subst₂, arith, ◌⊎◌, inl, inr, map}
 use Rattle.std.specs.Prelude.{nat_le, nat_lt, option_map}
+use Rattle.std.specs.List.{prefix_len}
 use Rattle.std.specs.BTreeMap.{get_by_text}
 use Rattle.std.specs.Str.{IsUtf8, bytes_eq, chars}
 use Rattle.std.proofs.lemmas.Bool.{cases_lt, false≢true, ltb-true, lt-ltb, leb-true, le-leb, not-true, cases_Bool, or_cases}
@@ -8,10 +9,12 @@ use Rattle.std.proofs.lemmas.List.Folds.{list_any-append}
 use Rattle.std.proofs.Math.Seq.{drop-length}
 use Rattle.std.proofs.Math.Bool.{or-true}
 use Rattle.rx_base.specs.Texts.{are_same, is_among}
+use Rattle.rx_units.specs.declared.code_point.CodePoint.{CodePoint}
+use Rattle.rx_units.specs.Units.{values}
 use Rattle.rx_units.proofs.Choices.{Some-inj, both}
 use Rattle.rx_model.specs.declared.mode.Mode.{Mode}
 use Rattle.rx_model.specs.FirstPass.GroupStates.{GroupState, Hides, Nests, group_states, step}
-use Rattle.rx_model.specs.FirstPass.Marks.{Mark, Clash, IsFirstClash, IsParted, other, bar, closer, quiet, capturing, count, listed, mark_at, mark_count, mark_front, mark_name, marks, marks_following, name_length, name_places, names, mark_place, places, places_following}
+use Rattle.rx_model.specs.FirstPass.Marks.{Mark, Clash, IsFirstClash, IsParted, other, bar, closer, quiet, capturing, count, listed, mark_at, mark_count, mark_front, mark_name, marks, marks_following, name_length, name_places, names, mark_place, places, places_following, seen}
 use Rattle.rx_model.specs.Trees.Names.{once_after}
 use Rattle.rx_model.proofs.FirstPass.PartedMarks.{hidden_parted, parted_hidden, last_seen, nests}
 use Rattle.rx_scan.specs.MarkReading.{is_plain}
@@ -22,6 +25,7 @@ use Rattle.rx_scan.specs.declared.first_pass.FirstPass.{FirstPass}
 use Rattle.rx_scan.specs.declared.first_pass.PassFault.{PassFault}
 use Rattle.rx_scan.specs.declared.first_pass.PassFault.TheVariants.{OutOfMemory, Duplicated}
 use Rattle.rx_scan.specs.declared.last_openings.LastOpenings.{LastOpenings}
+use Rattle.rx_scan.proofs.MarkSteps.{values_drop}
 use Rattle.rx_scan.proofs.KnownNames.{same_name_Decides, same_text}
 
 after_drop : (mode : Mode) (n : ℕ) (us : List ℕ) → marks_following mode n us ≡ marks mode (drop n us)
@@ -318,9 +322,31 @@ unfolding mark_front
 plain_front mode u us h = none_of (u == 92) (u == 91) (u == 40) (u == 41) (u == 124) _ _ _ _ _ (other, 0) h
 
 -- over a unit that opens and closes nothing
-pub passed : (mode : Mode) (duplicate_names : Bool) (us : List ℕ) (at k u : ℕ) (more : List ℕ) (s : FirstPass) → at < length us → drop at us ≡ u ∷ more → is_plain u ≡ true → IsAt mode duplicate_names us at k s → IsAt mode duplicate_names us (at + 1) (k + 1) s
-passed mode duplicate_names us at k u more s lt d plain w =
-    advanced mode duplicate_names us at k u more (other, 0) s s d (sym (plain_front mode u more plain)) (omega arith) (unmoved s at k w.knows) w
+passed : (mode : Mode) (duplicate_names : Bool) (us : List ℕ) (at k u : ℕ) (more : List ℕ) (s : FirstPass) → drop at us ≡ u ∷ more → is_plain u ≡ true → IsAt mode duplicate_names us at k s → IsAt mode duplicate_names us (at + 1) (k + 1) s
+passed mode duplicate_names us at k u more s d plain w =
+    let left : length us - at ≡ suc (length more) = sym (length-drop at us) ∙ ap length d in
+    advanced mode duplicate_names us at k u more (other, 0) s s d (sym (plain_front mode u more plain)) (omega (arith, left)) (unmoved s at k w.knows) w
+
+plain_run : (mode : Mode) (duplicate_names : Bool) (us : List ℕ) (ws : List CodePoint) (at k : ℕ) (s : FirstPass) → drop at us ≡ values ws → IsAt mode duplicate_names us at k s
+    → IsAt mode duplicate_names us (at + prefix_len (λ unit. is_plain unit.value) ws) (k + prefix_len (λ unit. is_plain unit.value) ws) s
+plain_run mode duplicate_names us [] at k s d w = subst₂ (λ a b. IsAt mode duplicate_names us a b s) (omega arith) (omega arith) w
+plain_run mode duplicate_names us (u ∷ ws) at k s d w = elim (cases_Bool (is_plain u.value)) [
+  | inl t ↦
+      let n = prefix_len (λ (unit : CodePoint). is_plain unit.value) ws in
+      let all : prefix_len (λ (unit : CodePoint). is_plain unit.value) (u ∷ ws) ≡ 1 + n = ap (λ b. cond b (1 + n) 0) t in
+      subst₂ (λ a b. IsAt mode duplicate_names us a b s) (omega (arith, all)) (omega (arith, all))
+      (plain_run mode duplicate_names us ws (at + 1) (k + 1) s (drop_next us at u.value (values ws) d) (passed mode duplicate_names us at k u.value (values ws) s d t w))
+  | inr f ↦
+      let n = prefix_len (λ (unit : CodePoint). is_plain unit.value) ws in
+      let none : prefix_len (λ (unit : CodePoint). is_plain unit.value) (u ∷ ws) ≡ 0 = ap (λ b. cond b (1 + n) 0) f in
+      subst₂ (λ a b. IsAt mode duplicate_names us a b s) (omega (arith, none)) (omega (arith, none)) w
+]
+
+-- over all units that stand next and do so
+pub passed_over : (mode : Mode) (duplicate_names : Bool) (us ws : List CodePoint) (at k n : ℕ) (s : FirstPass) → ws ≡ drop at us → n ≡ prefix_len (λ unit. is_plain unit.value) ws → IsAt mode duplicate_names (values us) at k s
+    → IsAt mode duplicate_names (values us) (at + n) (k + n) s
+passed_over mode duplicate_names us ws at k n s left is w =
+    subst (λ m. IsAt mode duplicate_names (values us) (at + m) (k + m) s) (sym is) (plain_run mode duplicate_names (values us) ws at k s (sym (values_drop at us) ∙ ap values (sym left)) w)
 
 places_at : (mode : Mode) (us : List ℕ) (at k : ℕ) (m : Mark) → mark_place mode us k ≡ at → mark_at (marks mode us) k ≡ m → (at + 3, at + 3 + name_length m) ≡ name_places mode us k
 places_at mode us at k m pl here = ap (λ z. (z + 3, z + 3 + name_length m)) (sym pl) ∙ ap (λ z. (mark_place mode us k + 3, mark_place mode us k + 3 + name_length z)) (sym here)
@@ -378,6 +404,12 @@ all_clean mode duplicate_names us at k s le w a b c = elim (cases_lt b k) [
       let d : drop k (marks mode us) ≡ [] = w.rest ∙ ap (marks mode) (at_end mode duplicate_names us at k s le w) in
       let m = nothing_at (marks mode us) k d b l in let q : None ≡ Some c.name = sym (ap (mark_name mode) m) ∙ c.second in cc
 ]
+
+-- at the end all groups are counted and all names are listed
+pub all_found : (mode : Mode) (duplicate_names : Bool) (us : List ℕ) (at k : ℕ) (s : FirstPass) → length us ≤ at → IsAt mode duplicate_names us at k s → (s.count ≡ count (marks mode us)) × (s.names ≡ seen mode (marks mode us))
+all_found mode duplicate_names us at k s le w =
+    let none : marks mode (drop at us) ≡ [] = ap (marks mode) (at_end mode duplicate_names us at k s le w) in
+    (omega (arith, ap count none, w.counted), ap (λ ms. with_names s.names (names mode ms)) (sym none) ∙ w.named_by)
 
 last_or_none : (x y : Option Entry) → last_or x y ≡ None → (x ≡ None) × (y ≡ None)
 last_or_none None y e = (refl, e)

@@ -1,4 +1,4 @@
-ghost use Rattle.std.specs.Prelude.{◌≡◌, ◌+◌, ◌<◌, ◌≤◌, ◌^◌, ℕ, List, None, Some, IfOk, IfErr, OnOk, drop, length, map, option_map};
+ghost use Rattle.std.specs.Prelude.{◌≡◌, ◌+◌, ◌<◌, ◌≤◌, ◌^◌, ℕ, List, None, Some, IfOk, IfErr, OnOk, length, map, option_map};
 ghost use Rattle.std.specs.Str.{chars};
 ghost use Rattle.rx_base.specs.Texts.{are_same};
 ghost use Rattle.rx_units.specs.Units.{values};
@@ -10,12 +10,12 @@ ghost use Rattle.rx_scan.specs.OpenGroups.{group_states_of, hides, states_that_p
 ghost use Rattle.rx_scan.specs.FirstPass.{Captures, ClashesWith, IsPassFault, IsStart, KnowsLast, LastTells, Refuses, Steps, entries, entry_of, first_clash, parts_of, span_of, with_name};
 
 use crate::last_openings::LastOpenings;
-use crate::mark::{Mark, is_plain, read_mark};
+use crate::mark::{Mark, plain_front, read_mark};
 use crate::open_groups::OpenGroups;
 use crate::{Names, capturing_group_name};
 use rx_base::{Counter, List, OutOfMemory, Text};
 use rx_model::Mode;
-use rx_units::CodePoint;
+use rx_units::{CodePoint, tail};
 use std::alloc::Global;
 
 /// A named opening: its index among the marks, its name, and the places before and after the units of the name.
@@ -63,13 +63,6 @@ pub struct FirstPass {
     pub groups: OpenGroups,
 }
 
-fn tail(units: &[CodePoint], place: usize) -> &[CodePoint]
-    requires { place ≤ length units.now }
-    ensures { result.now ≡ drop place units.now }
-{
-    &units[place..]
-}
-
 impl FirstPass {
     /// Counts the groups of a text and lists their names (CountLeftCapturingParensWithin of ECMA-262, 22.2.1.2), or finds the first two equal
     /// names that clash (22.2.1.1): any two, or where two groups may have one name, two that no bar parts. Counts each unit that it goes over.
@@ -93,20 +86,19 @@ impl FirstPass {
         let mut pass = FirstPass::new(alloc, mode, duplicate_names);
         let mut place = 0usize;
         let mut index = 0usize;
-        while place < units.len() {
-            let unit = units[place].value;
+        loop {
+            let plain = plain_front(tail(units, place), steps);
+            place += plain;
+            index += plain;
+            let [unit, following @ ..] = tail(units, place) else {
+                return Ok(pass);
+            };
             steps.tick();
-            if is_plain(unit) {
-                place += 1;
-                index += 1;
-                continue;
-            }
-            let (mark, more) = read_mark(unit, tail(units, place + 1), mode, steps);
+            let (mark, more) = read_mark(unit.value, following, mode, steps);
             pass.step(alloc, mark, place, index)?;
             place += more + 1;
             index += 1;
         }
-        Ok(pass)
     }
 
     fn new(alloc: Global, mode: Mode, duplicate_names: bool) -> FirstPass

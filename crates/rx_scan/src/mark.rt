@@ -1,4 +1,5 @@
 ghost use Rattle.std.specs.Prelude.{◌≡◌, ◌≤◌, ◌<◌, ◌+◌, false, length, option_map, IfSome, MatchOption};
+ghost use Rattle.std.specs.List.{prefix_len};
 ghost use Rattle.rx_units.specs.Units.{values};
 ghost use Rattle.rx_model.specs.Inputs.Environment.{is_sets};
 ghost use Rattle.rx_model.specs.FirstPass.Marks.{after_angle, class_rest, escape_rest, mark_front, name_length, open_front, question_front, specifier_front, starts};
@@ -21,7 +22,24 @@ pub enum Mark<'a> {
     Capturing(Option<&'a [CodePoint]>),
 }
 
+/// How many units stand before the first that is not plain. Each of these is a step.
+#[inline(always)]
+pub fn plain_front<C: Counter>(units: &[CodePoint], steps: &mut C) -> usize
+    ensures value { result ≡ prefix_len (λ unit. is_plain unit.value) units.now }
+    ensures within { result ≤ length units.now }
+    ensures steps { C.count steps.new ≡ C.count steps.old + result }
+{
+    for (place, unit) in units.iter().enumerate() {
+        if !is_plain(unit.value) {
+            return place;
+        }
+        steps.tick();
+    }
+    units.len()
+}
+
 /// Whether a unit is a mark of its own that opens and closes nothing, whatever stands after it.
+#[inline(always)]
 pub fn is_plain(unit: u32) -> bool
     ensures { result ≡ is_plain unit }
 {
@@ -102,15 +120,15 @@ fn flat_class_rest<C: Counter>(units: &[CodePoint], steps: &mut C) -> usize
     ensures within { result ≤ length units.now }
     ensures steps { C.count steps.new ≡ C.count steps.old + result }
 {
-    let mut escaped = false;
-    for (place, unit) in units.iter().enumerate() {
+    let mut left = units;
+    while let [unit, more @ ..] = left {
         steps.tick();
-        if escaped {
-            escaped = false;
-        } else if unit.value == ']' as u32 {
-            return place + 1;
-        } else {
-            escaped = unit.value == '\\' as u32;
+        left = more;
+        if unit.value == ']' as u32 {
+            return units.len() - left.len();
+        }
+        if unit.value == '\\' as u32 {
+            left = &more[escape_rest(more, steps)..];
         }
     }
     units.len()

@@ -3,15 +3,24 @@ ghost use Rattle.rx_base.specs.Characters.{is_code_point};
 ghost use Rattle.rx_tables.specs.Characters as set;
 
 /// Whether a value is one of `^ $ \ . * + ? ( ) [ ] { } |`.
+#[tactic(auto, using(crate::proofs::Tables::syntax_at))]
 pub fn is_syntax_character(cp: u32) -> bool
     ensures { result ≡ set.is_syntax_character cp }
 {
-    if cp < 64 {
-        matches!(cp as u8, b'$' | b'('..=b'+' | b'.' | b'?')
-    } else {
-        cp < 128 && matches!(cp as u8, b'['..=b'^' | b'{'..=b'}')
-    }
+    cp < 128 && SYNTAX_CHARACTERS[cp as usize] != 0
 }
+
+/// For each ASCII character, 1 where it is one of `^ $ \ . * + ? ( ) [ ] { } |`, else 0.
+static SYNTAX_CHARACTERS: [u8; 128] = [
+    0, 0, 0, 0, 0, 0, 0, 0, 0, 0, 0, 0, 0, 0, 0, 0, //
+    0, 0, 0, 0, 0, 0, 0, 0, 0, 0, 0, 0, 0, 0, 0, 0, //
+    0, 0, 0, 0, 1, 0, 0, 0, 1, 1, 1, 1, 0, 0, 1, 0, //
+    0, 0, 0, 0, 0, 0, 0, 0, 0, 0, 0, 0, 0, 0, 0, 1, //
+    0, 0, 0, 0, 0, 0, 0, 0, 0, 0, 0, 0, 0, 0, 0, 0, //
+    0, 0, 0, 0, 0, 0, 0, 0, 0, 0, 0, 1, 1, 1, 1, 0, //
+    0, 0, 0, 0, 0, 0, 0, 0, 0, 0, 0, 0, 0, 0, 0, 0, //
+    0, 0, 0, 0, 0, 0, 0, 0, 0, 0, 0, 1, 1, 1, 0, 0, //
+];
 
 /// Whether a value is one of `( ) [ ] { } / - \ |`.
 pub fn is_class_set_syntax_character(cp: u32) -> bool

@@ -17,7 +17,7 @@ pub mod template_literal_parser;
 pub use characters::{
     CR, LF, LS, PS, is_line_terminator, is_non_escape_character, is_single_escape_character,
 };
-pub use code_point::{CodePoint, EscapeKind};
+pub use code_point::{CodePoint, EscapeKind, tail};
 pub use literal::{handle_code_point, parse_regexp_literal};
 pub use options::Options;
 pub use reader::Reader;

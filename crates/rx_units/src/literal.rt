@@ -110,13 +110,16 @@ fn byte_units(alloc: Global, bytes: &[u8], span_offset: u32) -> Result<Vec<CodeP
     requires { span_offset + length bytes.now < 2 ^ 32 }
     ensures { IfOk result (λ units. units.items ≡ byte_units span_offset bytes.now) }
 {
-    let starts = span_offset..span_offset + bytes.len() as u32;
-    let units = starts.zip(bytes).map(|(start, byte)| CodePoint {
-        span: Span::new(start, start.wrapping_add(1)),
-        value: *byte as u32,
-        escape_kind: EscapeKind::None,
-    });
-    units.collect(alloc)
+    let mut units = Vec::with_capacity(alloc, bytes.len())?;
+    for start in span_offset..span_offset + bytes.len() as u32 {
+        let byte = bytes[(start - span_offset) as usize];
+        units.push_reserved(CodePoint {
+            span: Span::new(start, start.wrapping_add(1)),
+            value: byte as u32,
+            escape_kind: EscapeKind::None,
+        });
+    }
+    Ok(units)
 }
 
 /// How many bytes a character takes. Most take one.

@@ -30,7 +30,7 @@ use Rattle.rx_model.specs.Classes.ClassFronts.{atom_at, atom_read}
 use Rattle.rx_model.proofs.Classes.ClassFronts.{AtomFront, atom_found, atom_is_read}
 use Rattle.rx_class.specs.declared.classes.atom.CommonAtom.{CommonAtom}
 use Rattle.rx_class.specs.declared.escapes.common.CommonEscape.{CommonEscape}
-use Rattle.rx_class.specs.EscapeReading.CommonEscapes.{IsCommon}
+use Rattle.rx_class.specs.EscapeReading.CommonEscapes.{IsCommonEscape}
 use Rattle.rx_model.proofs.Characters.Escapes.{escape_nothing}
 use Rattle.rx_model.proofs.Characters.LegacyEscapes.{IsCharacterOrNothing, any_in_unicode, any_read, any_refused, any_spelled}
 use Rattle.rx_model.proofs.Refusals.Stops.{some_there, two_number}
@@ -244,7 +244,7 @@ module _ (e : Environment) (no_sets : is_sets e.mode ≡ false) where
 
 -- A backslash and an escape that most are stand for the same in a class.
 pub escape_common : (e : Environment) (us : List CodePoint) (none : CodePoint) (it : CommonEscape) {unicode : Bool} → StandsItem us → (get_or us 0 none).value ≡ 92 → is_unicode e.mode ≡ unicode
-    → IsCommon unicode (drop 1 us) it → IsCommonAtom e us (record { kind = it.kind; value = it.value; length = it.length + 1 })
+    → IsCommonEscape unicode (drop 1 us) it → IsCommonAtom e us (record { kind = it.kind; value = it.value; length = it.length + 1 })
 escape_common e [] none it stands backslash same common = absurd (stands.some refl)
 escape_common e (u ∷ us) none it stands backslash same common =
     let f = any_there e (character it.kind it.value) (it.length + 1) u us it.kind it.value it.length backslash (any_spelled true e it.kind it.value it.length (values us) (common.read true e same)) refl in

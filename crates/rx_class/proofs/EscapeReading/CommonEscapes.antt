@@ -15,7 +15,7 @@ use Rattle.rx_model.specs.Characters.LegacyEscapes as legacy
 use Rattle.rx_model.specs.Reading.FrontReading.{backslash_read, escape_read}
 use Rattle.rx_model.proofs.Characters.LegacyEscapes.{any_in_unicode, any_legacy_read, any_read, any_small, any_within}
 use Rattle.rx_model.proofs.Spelling.Backs.{syntax_identity}
-use Rattle.rx_class.specs.EscapeReading.CommonEscapes.{IsCommon}
+use Rattle.rx_class.specs.EscapeReading.CommonEscapes.{IsCommonEscape}
 use Rattle.rx_class.specs.SetReading.Fronts.{set_escape_at}
 use Rattle.rx_class.specs.declared.escapes.common.CommonEscape.{CommonEscape}
 use Rattle.rx_class.proofs.EscapeReading.Bounds.{environment_by}
@@ -37,7 +37,7 @@ module _ (c : ℕ) (w : List ℕ) (first : BeginsEscapeAlone c) where
 
   -- So one that is read as a character escape is read so everywhere.
   common : (unicode_mode : Bool) (us : List CodePoint) (it : CommonEscape) → values us ≡ c ∷ w → 1 ≤ it.length
-      → ((inside : Bool) (e : Environment) → is_unicode e.mode ≡ unicode_mode → any_escape_at inside e (c ∷ w) ≡ escaped it.kind it.value it.length) → IsCommon unicode_mode us it
+      → ((inside : Bool) (e : Environment) → is_unicode e.mode ≡ unicode_mode → any_escape_at inside e (c ∷ w) ≡ escaped it.kind it.value it.length) → IsCommonEscape unicode_mode us it
   common unicode_mode us it whole some read =
       let unicode = environment_by true 0 true in
       let e = environment_by unicode_mode 0 true in
@@ -95,7 +95,7 @@ module _ (unicode_mode : Bool) where
   abbrev BeginsNoPair : ℕ → List CodePoint → Type 0
   BeginsNoPair v us = ((unicode_mode && is_lead v) && starts 92 (values (take (length us - 4) (drop 4 us)))) ≡ false
 
-  four_common : (u : CodePoint) (us : List CodePoint) (v : ℕ) → u.value ≡ 117 → four_next (values us) ≡ Some v → BeginsNoPair v us → IsCommon unicode_mode (u ∷ us) (record { kind = kinds.UnicodeEscape; value = v; length = 5 })
+  four_common : (u : CodePoint) (us : List CodePoint) (v : ℕ) → u.value ≡ 117 → four_next (values us) ≡ Some v → BeginsNoPair v us → IsCommonEscape unicode_mode (u ∷ us) (record { kind = kinds.UnicodeEscape; value = v; length = 5 })
   four_common u (a ∷ b ∷ c ∷ d ∷ us) v is four alone =
       let w = values (a ∷ b ∷ c ∷ d ∷ us) in
       let first : BeginsEscapeAlone 117 = record { no_letter = refl; no_digit = refl; no_punctuator = refl; small = refl } in
@@ -105,13 +105,13 @@ module _ (unicode_mode : Bool) where
   four_common u us v is four alone = absurd (let no : ⊥ = cc four in no)
 
   pub unicode_common : (us : List CodePoint) (none : CodePoint) (v : ℕ) → 1 ≤ length us → (get_or us 0 none).value ≡ 117 → four_next (values (take (length us - 1) (drop 1 us))) ≡ Some v
-      → BeginsNoPair v (take (length us - 1) (drop 1 us)) → IsCommon unicode_mode us (record { kind = kinds.UnicodeEscape; value = v; length = 5 })
+      → BeginsNoPair v (take (length us - 1) (drop 1 us)) → IsCommonEscape unicode_mode us (record { kind = kinds.UnicodeEscape; value = v; length = 5 })
   unicode_common [] none v some is four alone = absurd (omega arith)
   unicode_common (u ∷ us) none v some is four alone =
       let all = take_all (length (u ∷ us) - 1) us (omega arith) in
       four_common u us v is (ap (λ us. four_next (values us)) (sym all) ∙ four) (subst (BeginsNoPair v) all alone)
 
   pub short_common : (us : List CodePoint) (none : CodePoint) (v : ℕ) → 1 ≤ length us → short_escape_value (get_or us 0 none).value ≡ Some v
-      → IsCommon unicode_mode us (record { kind = if v == (get_or us 0 none).value then kinds.Identifier else kinds.SingleEscape; value = v; length = 1 })
+      → IsCommonEscape unicode_mode us (record { kind = if v == (get_or us 0 none).value then kinds.Identifier else kinds.SingleEscape; value = v; length = 1 })
   short_common [] none v some h = absurd (omega arith)
   short_common (u ∷ us) none v some h = common u.value (values us) (short_alone u.value v h) unicode_mode (u ∷ us) _ refl (omega arith) (λ inside e m. short_read inside e u.value (values us) v h)

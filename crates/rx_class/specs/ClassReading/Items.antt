@@ -83,7 +83,7 @@ pub record StandsItem (us : List CodePoint) : Type 0 where
   pub some : us ≡ [] → ⊥
   pub no_closer : starts ascii.right_bracket (values us) ≡ false
 
--- The atom that the units begin with is this character, a code point, in as many units.
+-- The atom that the units begin with is this character, a code point, and takes this many units.
 pub record IsCommonAtom (e : Environment) (us : List CodePoint) (it : CommonAtom) : Type 0 where
   pub read : atom_at e us ≡ atom_read (character it.kind it.value) it.length
   pub code_point : it.value ≤ 0x10FFFF

@@ -10,7 +10,7 @@ use Rattle.rx_class.specs.SetReading.Fronts.{set_escape_at}
 use Rattle.rx_class.specs.declared.escapes.common.CommonEscape.{CommonEscape}
 
 -- The units after a backslash begin with this character escape, in each environment with `u` or `v`, or in each with neither.
-pub record IsCommon (unicode_mode : Bool) (us : List CodePoint) (it : CommonEscape) : Type 0 where
+pub record IsCommonEscape (unicode_mode : Bool) (us : List CodePoint) (it : CommonEscape) : Type 0 where
   -- as an escape of a character, in a class or outside classes
   pub read : (inside : Bool) (e : Environment) → is_unicode e.mode ≡ unicode_mode → any_escape_at inside e (values us) ≡ escaped it.kind it.value it.length
   -- outside classes, where it is neither an assertion nor a class escape, and neither a reference nor a property escape

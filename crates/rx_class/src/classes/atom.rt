@@ -1,4 +1,4 @@
-ghost use Rattle.std.specs.Prelude.{◌≡◌, ◌≤◌, All, IfOk, IfSome, Ok, drop, false, length};
+ghost use Rattle.std.specs.Prelude.{◌≡◌, ◌≤◌, All, IfOk, IfSome, Ok, false};
 ghost use Rattle.rx_ast.specs.ClassTree.{mirror_contents};
 ghost use Rattle.rx_units.specs.Cursor.{move_on, rest};
 ghost use Rattle.rx_units.specs.Pace.{IsPaced, TakesSteps};
@@ -14,7 +14,7 @@ use rx_ast::{
     Character, CharacterClassContents, CharacterClassEscape, CharacterKind, UnicodePropertyEscape,
 };
 use rx_base::{Counter, Diagnostic, Fault, OutOfMemory, Span};
-use rx_units::{CodePoint, EscapeKind};
+use rx_units::{CodePoint, EscapeKind, tail};
 use std::alloc::Global;
 
 /// What stands alone in a class, or at an end of a range (ClassAtom of ECMA-262, 22.2.1).
@@ -28,8 +28,11 @@ pub enum ClassAtom {
 /// A character that stands next as an atom of a class without `v`, and how many units spell it.
 #[derive(Clone, Copy)]
 pub struct CommonAtom {
+    /// How it is written.
     pub kind: CharacterKind,
+    /// The code point that it stands for.
     pub value: u32,
+    /// How many units spell it.
     pub length: usize,
 }
 
@@ -146,33 +149,24 @@ impl<C: Counter> Reading<'_, '_, '_, '_, '_, C> {
     }
 }
 
-/// The character that the units begin with as an atom of a class without `v`, where it is a unit that stands for itself or an escape
-/// that most escapes are. `None` says nothing.
+/// The character that the units begin with as an atom of a class without `v`, where it is a unit that stands for itself or a common
+/// escape. `None` does not mean that no character stands there.
 #[inline(always)]
-pub fn common_atom_at(units: &[CodePoint], unicode: bool) -> Option<CommonAtom>
+pub fn common_atom_at(units: &[CodePoint], unicode_mode: bool) -> Option<CommonAtom>
     requires stands { StandsItem units.now }
     requires code_points { All (λ unit. unit.value ≤ 0x10FFFF) units.now }
-    ensures { IfSome result (λ it. (e : Environment) → is_unicode e.mode ≡ unicode → is_sets e.mode ≡ false → IsCommonAtom e units.now it) }
+    ensures { IfSome result (λ it. (e : Environment) → is_unicode e.mode ≡ unicode_mode → is_sets e.mode ≡ false → IsCommonAtom e units.now it) }
 {
     let unit = units[0];
     if unit.value != '\\' as u32 {
         return Some(unit_atom(unit));
     }
-    let escape = common_escape_at(tail(units, 1), unicode)?;
+    let escape = common_escape_at(tail(units, 1), unicode_mode)?;
     Some(CommonAtom {
         kind: escape.kind,
         value: escape.value,
         length: escape.length + 1,
     })
-}
-
-/// The units from a place on.
-#[inline(always)]
-pub fn tail(units: &[CodePoint], place: usize) -> &[CodePoint]
-    requires { place ≤ length units.now }
-    ensures { result.now ≡ drop place units.now }
-{
-    &units[place..]
 }
 
 /// A unit that stands for itself, as an atom.

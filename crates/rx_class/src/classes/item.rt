@@ -11,11 +11,11 @@ ghost use Rattle.rx_class.specs.EscapeReading.Answers.{environment_of};
 ghost use Rattle.rx_class.specs.ClassReading.Items.{AddsItem, GivesItem, IsBetween, StandsItem, atom_member, atom_of, hyphen_member, item_contents, item_members};
 ghost use Rattle.rx_class.specs.Keeping.{KeepsUnits};
 
-use crate::classes::atom::{ClassAtom, common_atom_at, tail};
+use crate::classes::atom::{ClassAtom, common_atom_at};
 use crate::reading::Reading;
 use rx_ast::{Character, CharacterClassContents, CharacterClassRange, CharacterKind};
 use rx_base::{Counter, Diagnostic, Fault, List, OutOfMemory, RangeKind, Span};
-use rx_units::CodePoint;
+use rx_units::{CodePoint, tail};
 use std::alloc::Global;
 
 /// An item of a class, as it is read.

@@ -4,7 +4,7 @@ ghost use Rattle.rx_base.specs.Characters.{is_lead};
 ghost use Rattle.rx_ast.specs.declared.leaf.CharacterKind.TheVariants as kind;
 ghost use Rattle.rx_units.specs.Units.{values};
 ghost use Rattle.rx_model.specs.FirstPass.Marks.{starts};
-ghost use Rattle.rx_class.specs.EscapeReading.CommonEscapes.{IsCommon};
+ghost use Rattle.rx_class.specs.EscapeReading.CommonEscapes.{IsCommonEscape};
 
 use crate::sets::front::begins_with;
 use rx_ast::CharacterKind;
@@ -16,6 +16,7 @@ use rx_units::CodePoint;
 /// An escape of a character that is read alike in classes and outside them, whatever groups and names the pattern has.
 #[derive(Clone, Copy, Debug)]
 pub struct CommonEscape {
+    /// How it is written.
     pub kind: CharacterKind,
     /// The character that it stands for.
     pub value: u32,
@@ -23,14 +24,13 @@ pub struct CommonEscape {
     pub length: usize,
 }
 
-/// The escape of a character (CharacterEscape of ECMA-262, 22.2.1) that the units after a backslash begin with, where it is one that most are: a
-/// ControlEscape, a SyntaxCharacter or `/`, or `u` and four hexadecimal digits that begin no pair. `None` says nothing: another escape may stand
-/// there.
+/// The escape of a character (CharacterEscape of ECMA-262, 22.2.1) that the units after a backslash begin with, where it is a ControlEscape, a
+/// SyntaxCharacter or `/`, or `u` and four hexadecimal digits that begin no pair. `None` does not mean that no escape stands there.
 ///
 /// It counts no step. The caller that takes the escape counts one for each of its digits.
 #[inline(always)]
 pub fn common_escape_at(units: &[CodePoint], unicode_mode: bool) -> Option<CommonEscape>
-    ensures { IfSome result (λ it. IsCommon unicode_mode units.now it) }
+    ensures { IfSome result (λ it. IsCommonEscape unicode_mode units.now it) }
 {
     let [first, following @ ..] = units else {
         return None;

@@ -32,7 +32,7 @@ pub record IsStop (literal : Literal) (o : Options) (inner : List ℕ) (stop : S
   pub ends : (e : Element) (n : ℕ) → front literal stop.rest.now ≡ element e n → is_refused o e.writing ≡ true
   pub bytes : stop.offset + byte_count stop.rest.now ≡ o.span_offset + 1 + byte_count inner
 
--- In each kind of quotes the element of n characters that stands next gives a character of ASCII, and they are as many bytes.
+-- In each kind of quotes the element of n characters that stands next gives a character of ASCII, and takes n bytes.
 pub record IsPlainFront (c n : ℕ) (us : List ℕ) : Type 0 where
   pub ascii : c < 128
   pub found : (literal : Literal) → front literal us ≡ element (written c Plain) n

@@ -70,7 +70,11 @@ fn characters(alloc: Global, text: &str) -> Result<Vec<char>, AllocError>
 fn ascii_characters(alloc: Global, bytes: &[u8]) -> Result<Vec<char>, AllocError>
     ensures { IfOk result (λ characters. characters.items ≡ bytes.now) }
 {
-    bytes.iter().map(|byte| *byte as char).collect(alloc)
+    let mut characters = Vec::with_capacity(alloc, bytes.len())?;
+    for byte in bytes {
+        characters.push_reserved(*byte as char);
+    }
+    Ok(characters)
 }
 
 /// The place after elements at which none stands, or one that is not allowed.
@@ -90,7 +94,7 @@ impl Stop<'_> {
         matches!(self.found, Found::Closer) && self.rest.len() == 1
     }
 
-    /// Where a text ends whose closing quote, which takes a byte, stands here.
+    /// The offset after the closing quote that stands here.
     pub(crate) fn end(&self) -> u32
         requires { self.now.offset + 1 < 2 ^ 32 }
         ensures { result ≡ self.now.offset + 1 }

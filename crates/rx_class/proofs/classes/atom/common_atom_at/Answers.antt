@@ -1,5 +1,5 @@
 use Rattle.std.proofs.Common.{subst}
-use Rattle.rx_class.specs.EscapeReading.CommonEscapes.{IsCommon}
+use Rattle.rx_class.specs.EscapeReading.CommonEscapes.{IsCommonEscape}
 use Rattle.rx_class.proofs.ClassReading.Atoms.{escape_common, unit_common}
 use Rattle.rx_class.proofs.classes.atom.common_atom_at.Goals as goal
 
@@ -10,4 +10,4 @@ returns-then-unit c = λ e unicode no_sets.
 
 pub returns : goal.returns
 returns c = λ e unicode no_sets.
-    escape_common e c.args.units.now _ c.in_ok-escape.escape c.requires.stands c.if-unit.false unicode (subst (λ us. IsCommon c.args.unicode us c.in_ok-escape.escape) c.tail.ensures c.in_ok-escape.ensures)
+    escape_common e c.args.units.now _ c.in_ok-escape.escape c.requires.stands c.if-unit.false unicode (subst (λ us. IsCommonEscape c.args.unicode_mode us c.in_ok-escape.escape) c.tail.ensures c.in_ok-escape.ensures)
