@@ -1,10 +1,11 @@
 -- What is found at the front of a text, by what is read there.
-use Rattle.std.proofs.Common.{All, ◌≡◌, refl, sym, ap, ap₂, ◌∙◌, subst, ℕ, ◌+◌, ◌-◌, ◌%◌, ◌≤◌, Bool, true, false, not, ◌==◌, ◌&&◌, ◌||◌, Some, None, List, [], ◌∷◌, ◌++◌, length, take, drop, get_or, arith, append_assoc, length-append}
+use Rattle.std.proofs.Common.{All, ◌≡◌, refl, sym, ap, ap₂, ◌∙◌, subst, ℕ, ◌+◌, ◌-◌, ◌%◌, ◌≤◌, Bool, true, false, not, ◌==◌, ◌&&◌, ◌||◌, if◌then◌else◌, Some, None, List, [], ◌∷◌, ◌++◌, length, take, drop, get_or, arith, append_assoc, length-append}
 use Rattle.rx_parser.proofs.Common.{take-append_seam, nat_tests, is_syntax_character, CodePoint, values, PassesHex, Mode, Legacy, Sets, Unicode, starts, BeginsName, of_group, of_reference, ModifiersHalt, Environment, is_unicode, are_counts, counts_at, front, is_raw_at, is_legacy_syntax, stands_raw}
 use Rattle.rx_parser.proofs.Common.{Token, Opener, boundary, character, dot, class_escape, property, class, indexed, named, opener, closer, bar, quantifier, capturing, ignoring, looking, Front, front_spelled, legacy_syntax, HoldsName, IsFound, IsOpenerFound, found_front, found_halt, found_opener}
 use Rattle.rx_parser.proofs.Common.{found_name_halt, unit_kind, IsNameRow, no_name, some_name, SpellsName, IsStop, at_end, at_closer, at_bracket, at_brace, after_backslash, bits_small, AreWrong, unknown, duplicated, empty, invalid, EscapeAfter, SaysNameHalt, Says, SaysHalt, front_said, halt_end}
 use Rattle.std.proofs.lemmas.Bool.{and_from, cond-false, cond-true, false_from_ne_true, ne_eqb, or_right, true≢false}
 use Rattle.std.proofs.lemmas.List.{drop-map, length-drop, length-map, map-append, take-map, take_all}
+use Rattle.rx_units.specs.Cursor as cursor
 use Rattle.rx_model.specs.Groups.GroupNameReading.{name_of}
 use Rattle.rx_model.specs.Groups.NameFronts.{NameHalt, unterminated, misplaced_pair, misplaced, no_escape, no_escape_of_u, many_digits}
 use Rattle.rx_model.specs.Reading.FrontReading.{FrontHalt, ends_here, last_backslash, out_of_order, too_large, many_decimal_digits, many_hex_digits, no_unicode_escape, in_name, no_angle, no_such_group, in_modifiers, FrontRead, token_read, property_begins, class_begins, halted, front_read, backslash_read, syntax_read}
@@ -20,35 +21,34 @@ unfolding front_read
 raw_alone e [] d l raw = absurd (omega arith)
 raw_alone e (u ∷ us) d l raw = cond-true (is_raw_at e u.value (values us)) _ _ (ap (λ us. is_raw_at e u.value (values us)) (sym (take_all (length (u ∷ us) - 1) us (omega arith))) ∙ raw)
 
--- a backslash and `[` stand for themselves in no mode
-backslash_not_raw : (mode : Mode) → stands_raw mode 92 ≡ false
-backslash_not_raw Legacy = refl
-backslash_not_raw Unicode = refl
-backslash_not_raw Sets = refl
+-- what the ExtendedPatternCharacter of B.1.2 leaves out stands for itself in no mode
+never_raw : (mode : Mode) (c : ℕ) → is_legacy_syntax c ≡ true → stands_raw mode c ≡ false
+never_raw Legacy c h = ap not h
+never_raw Unicode c h = ap not (legacy_syntax c h)
+never_raw Sets c h = ap not (legacy_syntax c h)
 
-bracket_not_raw : (mode : Mode) → stands_raw mode 91 ≡ false
-bracket_not_raw Legacy = refl
-bracket_not_raw Unicode = refl
-bracket_not_raw Sets = refl
+-- So its value and the units after it say what is read.
+abbrev pub read_after : Environment → ℕ → List ℕ → FrontRead
+read_after e c w = if c == 92 then backslash_read e w else (if c == 91 then class_begins else syntax_read e c w)
+
+pub read_by_first : (e : Environment) (us : List CodePoint) (c : ℕ) → cursor.front us ≡ Some c → is_legacy_syntax c ≡ true → front_read e us ≡ read_after e c (drop 1 (values us))
+unfolding front_read
+read_by_first e [] c is legacy = absurd (let no : ⊥ = cc is in no)
+read_by_first e (u ∷ us) c is legacy =
+    let same : u.value ≡ c = cc is in
+    let raw : is_raw_at e c (values us) ≡ false = ap (λ b. b && (is_unicode e.mode || not (are_counts (counts_at (c ∷ values us))))) (never_raw e.mode c legacy) in
+    rw same (cond-false (is_raw_at e c (values us)) _ _ raw)
 
 -- a backslash
 pub backslash_alone : (e : Environment) (us : List CodePoint) (d : CodePoint) → 1 ≤ length us → (get_or us 0 d).value ≡ 92
     → front_read e us ≡ backslash_read e (values (take (length us - 1) (drop 1 us)))
-unfolding front_read
 backslash_alone e [] d l is = absurd (omega arith)
-backslash_alone e (u ∷ us) d l is =
-    cond-false (is_raw_at e u.value (values us)) _ _ (ap (λ b. b && (is_unicode e.mode || not (are_counts (counts_at (u.value ∷ values us))))) (ap (λ c. stands_raw e.mode c) is ∙ backslash_not_raw e.mode))
-    ∙ cond-true (u.value == 92) _ _ (ap (λ c. c == 92) is)
-    ∙ ap (λ us. backslash_read e (values us)) (sym (take_all (length (u ∷ us) - 1) us (omega arith)))
+backslash_alone e (u ∷ us) d l is = read_by_first e (u ∷ us) 92 (ap Some is) refl ∙ ap (λ us. backslash_read e (values us)) (sym (take_all (length (u ∷ us) - 1) us (omega arith)))
 
 -- the beginning of a class
 pub bracket_alone : (e : Environment) (us : List CodePoint) (d : CodePoint) → 1 ≤ length us → (get_or us 0 d).value ≡ 91 → front_read e us ≡ class_begins
-unfolding front_read
 bracket_alone e [] d l is = absurd (omega arith)
-bracket_alone e (u ∷ us) d l is =
-    cond-false (is_raw_at e u.value (values us)) _ _ (ap (λ b. b && (is_unicode e.mode || not (are_counts (counts_at (u.value ∷ values us))))) (ap (λ c. stands_raw e.mode c) is ∙ bracket_not_raw e.mode))
-    ∙ cond-false (u.value == 92) _ _ (ap (λ c. c == 92) is)
-    ∙ cond-true (u.value == 91) _ _ (ap (λ c. c == 91) is)
+bracket_alone e (u ∷ us) d l is = read_by_first e (u ∷ us) 91 (ap Some is) refl
 
 -- another that is neither a backslash nor `[`
 pub syntax_alone : (e : Environment) (us : List CodePoint) (d : CodePoint) → 1 ≤ length us → is_raw_at e (get_or us 0 d).value (values (take (length us - 1) (drop 1 us))) ≡ false

@@ -2,6 +2,7 @@ pub mod ClassTurns
 pub mod Common
 pub mod Endings
 pub mod EventEquations
+pub mod FirstUnits
 pub mod FrameEvents
 pub mod FrontFound
 pub mod Goods
@@ -9,6 +10,7 @@ pub mod Halts
 pub mod Inputs
 pub mod Insides
 pub mod Leaves
+pub mod LoneFlags
 pub mod Looks
 pub mod ModifierBits
 pub mod ModifiersFound

@@ -44,36 +44,35 @@ module _ (r : Cursor) (us : List CodePoint) (count i : ℕ) (d : CodePoint) (lef
       All-get_or (λ (u : CodePoint). is_syntax_character u.value ≡ false) (take count us) i d (omega (arith, inside, within, length-take count us))
       (subst (λ ws. All (λ (u : CodePoint). is_syntax_character u.value ≡ false) (take count ws)) (sym left) plain)
 
-module _ {added : ℕ} {b : Builder} {r : Cursor} (h : IsBefore added b r) where
-  -- the unit of a run after i others
-  module _ (i : ℕ) (u : CodePoint) (some : i < length (rest r)) (is : u ≡ get_or (rest r) i u) where
-    -- it ends where the next begins
-    pub unit_end : u.span.end ≡ offset_at r.first r.units (r.place + (i + 1))
-    unit_end =
-        let place : ℕ = r.place + (i + 1) in
-        let before : r.place + i ≡ place - 1 = omega arith in
-        let k = end_of_take r.first r.units place u (omega arith) (omega (arith, some, length-drop r.place r.units, h.parsing.within)) in
-        ap (λ (v : CodePoint). v.span.end) (is ∙ get_or-drop r.place r.units i u ∙ ap (λ n. get_or r.units n u) before) ∙ sym k
+-- a unit ends where the next begins
+pub unit_end : (r : Cursor) (i : ℕ) (u : CodePoint) → i < length (rest r) → u ≡ get_or (rest r) i u → u.span.end ≡ offset_at r.first r.units (r.place + (i + 1))
+unit_end r i u some is =
+    let place : ℕ = r.place + (i + 1) in
+    let before : r.place + i ≡ place - 1 = omega arith in
+    let k = end_of_take r.first r.units place u (omega arith) (omega (arith, some, length-drop r.place r.units)) in
+    ap (λ (v : CodePoint). v.span.end) (is ∙ get_or-drop r.place r.units i u ∙ ap (λ n. get_or r.units n u) before) ∙ sym k
 
-    -- the builder takes it
-    pub run_on : (l c : Builder) (term : Term) (start : ℕ) → AreCodePoints r → is_syntax_character u.value ≡ false → IsParsing b.mode b.rules r.units r.first added l (r.place + i) → start ≡ offset_at r.first r.units (r.place + i)
-        → Takes l c u term (start + added) (u.span.end + added) → IsParsing b.mode b.rules r.units r.first added c (r.place + (i + 1))
-    run_on l c term start small plain parsing from t =
-        let s : Cursor = record r { place = r.place + i } in
-        let within : r.place + i < length r.units = omega (arith, some, length-drop r.place r.units, h.parsing.within) in
-        let same : drop i (rest r) ≡ rest s = drop-drop i r.place r.units in
-        let mode : b.mode ≡ l.mode = sym parsing.at.mode in
-        let same_rules : b.rules ≡ l.rules = sym parsing.rules_are in
-        let before : IsBefore added l s = record {
-          parsing = subst (λ m. IsParsing m l.rules r.units r.first added l (r.place + i)) mode (subst (λ it. IsParsing b.mode it r.units r.first added l (r.place + i)) same_rules parsing);
-          left = within;
-          fits = record { first = h.fits.first; ends = h.fits.ends };
-        } in
-        let next : min (r.place + i + 1) (length r.units) ≡ r.place + (i + 1) = omega (arith, within) in
-        let code_points : AreCodePoints s = subst (All (λ (u : CodePoint). u.value ≤ 0x10FFFF)) same (All-drop (λ (u : CodePoint). u.value ≤ 0x10FFFF) i (rest r) small) in
-        let first : i ≡ i + 0 = omega arith in
-        let here : u ≡ get_or (rest s) 0 u = is ∙ ap (λ n. get_or (rest r) n u) first ∙ sym (get_or-drop i (rest r) 0 u) ∙ ap (λ us. get_or us 0 u) same in
-        let turned = unit_turned before c u term (start + added) (u.span.end + added) code_points (omega (arith, within, length-drop (r.place + i) r.units)) here plain
-        (ap (λ k. k + added) from) (ap (λ k. k + added) (unit_end ∙ ap (offset_at r.first r.units) (sym next))) t in
-        subst (λ it. IsParsing b.mode it r.units r.first added c (r.place + (i + 1))) (sym same_rules)
-        (subst (λ m. IsParsing m l.rules r.units r.first added c (r.place + (i + 1))) (sym mode) (subst (IsParsing l.mode l.rules r.units r.first added c) next turned.parsing))
+-- the unit of a run after i others
+module _ {added : ℕ} {b : Builder} {r : Cursor} (h : IsBefore added b r) (i : ℕ) (u : CodePoint) (some : i < length (rest r)) (is : u ≡ get_or (rest r) i u) where
+  -- the builder takes it
+  pub run_on : (l c : Builder) (term : Term) (start : ℕ) → AreCodePoints r → is_syntax_character u.value ≡ false → IsParsing b.mode b.rules r.units r.first added l (r.place + i) → start ≡ offset_at r.first r.units (r.place + i) + added
+      → Takes l c u term start (u.span.end + added) → IsParsing b.mode b.rules r.units r.first added c (r.place + (i + 1))
+  run_on l c term start small plain parsing from t =
+      let s : Cursor = record r { place = r.place + i } in
+      let within : r.place + i < length r.units = omega (arith, some, length-drop r.place r.units, h.parsing.within) in
+      let same : drop i (rest r) ≡ rest s = drop-drop i r.place r.units in
+      let mode : b.mode ≡ l.mode = sym parsing.at.mode in
+      let same_rules : b.rules ≡ l.rules = sym parsing.rules_are in
+      let before : IsBefore added l s = record {
+        parsing = subst (λ m. IsParsing m l.rules r.units r.first added l (r.place + i)) mode (subst (λ it. IsParsing b.mode it r.units r.first added l (r.place + i)) same_rules parsing);
+        left = within;
+        fits = record { first = h.fits.first; ends = h.fits.ends };
+      } in
+      let next : min (r.place + i + 1) (length r.units) ≡ r.place + (i + 1) = omega (arith, within) in
+      let code_points : AreCodePoints s = subst (All (λ (u : CodePoint). u.value ≤ 0x10FFFF)) same (All-drop (λ (u : CodePoint). u.value ≤ 0x10FFFF) i (rest r) small) in
+      let first : i ≡ i + 0 = omega arith in
+      let here : u ≡ get_or (rest s) 0 u = is ∙ ap (λ n. get_or (rest r) n u) first ∙ sym (get_or-drop i (rest r) 0 u) ∙ ap (λ us. get_or us 0 u) same in
+      let turned = unit_turned before c u term start (u.span.end + added) code_points (omega (arith, within, length-drop (r.place + i) r.units)) here plain
+      from (ap (λ k. k + added) (unit_end r i u some is ∙ ap (offset_at r.first r.units) (sym next))) t in
+      subst (λ it. IsParsing b.mode it r.units r.first added c (r.place + (i + 1))) (sym same_rules)
+      (subst (λ m. IsParsing m l.rules r.units r.first added c (r.place + (i + 1))) (sym mode) (subst (IsParsing l.mode l.rules r.units r.first added c) next turned.parsing))

@@ -1,5 +1,5 @@
 -- Each token moves the reading on.
-use Rattle.std.proofs.Common.{◌≡◌, refl, ap, sym, ◌∙◌, subst, ℕ, ◌+◌, Bool, true, false, Option, Some, List, [], ◌∷◌, ◌++◌, length, append_assoc}
+use Rattle.std.proofs.Common.{◌≡◌, refl, ap, sym, ◌∙◌, subst, ℕ, ◌+◌, Bool, true, false, Option, Some, List, [], ◌∷◌, ◌++◌, length, append_assoc, Result, Ok, Err, OnOk}
 use Rattle.rx_parser.proofs.Common.{CodePoint, Pattern, class_span, Environment, Events, enter, leave, token, events, tokens_of, Row, Spells, run, IsWellMade, Token, Opener, quantifier, tokens_of-append, row_append, row_split, Builder, builder_events, openers, ready, IsGood, Repeats, IsAt, fixed_of}
 use Rattle.rx_parser.proofs.Common.{Mode, Rules, ClassRow, IsClassSpanned, Place, next_place, fresh, outside, run-append}
 use Rattle.rx_ast.specs.ClassTree.{Class, class}
@@ -13,6 +13,12 @@ pub record Grows (b c : Builder) (es : Events) (open_groups : List Opener) (read
   pub ready_is : ready c ≡ ready_then
   pub good : IsGood b → IsGood c
   pub fixed : fixed_of c ≡ fixed_of b
+
+-- what follows where a call of the builder ends well, which tells each part of that
+pub grown_on_ok : {A E P : Type 0} {b c : Builder} {es : Events} {open_groups : List Opener} {ready_then : Bool} (result : Result A E) → OnOk result (builder_events c ≡ builder_events b ++ es)
+    → OnOk result (openers c ≡ open_groups) → OnOk result (ready c ≡ ready_then) → OnOk result (IsGood b → IsGood c) → fixed_of c ≡ fixed_of b → (Grows b c es open_groups ready_then → P) → OnOk result P
+grown_on_ok (Ok it) e o r g f follows = follows (record { events = e; openers_are = o; ready_is = r; good = g; fixed = f })
+grown_on_ok (Err it) e o r g f follows = tt
 
 -- A builder has made the last node the body of a quantifier.
 pub record Quantifies (b c : Builder) (min : ℕ) (max : Option ℕ) (greedy : Bool) (after : ℕ) : Type 0 where

@@ -7,12 +7,12 @@ use Rattle.rx_parser.proofs.Paces.{plain_within}
 
 module _ (from to : Cursor) (n old mid new : ℕ) where
   -- however it ends
-  token_bounded : n ≤ length (rest from) → Rises old mid 0 (token_looks (drop 1 (rest from)) n) → new + units_left to ≤ mid + units_left from + 2 * (n - 1) → new ≤ old + 7 * units_left from + 7
+  pub token_bounded : n ≤ length (rest from) → Rises old mid 0 (token_looks (drop 1 (rest from)) n) → new + units_left to ≤ mid + units_left from + 2 * (n - 1) → new ≤ old + 7 * units_left from + 7
   token_bounded within first more =
       let following = plain_within (drop (n - 1) (drop 1 (rest from))) in
       omega (arith, within, first.1, more, following, length-drop (n - 1) (drop 1 (rest from)), length-drop 1 (rest from))
 
-  token_paced : from.place < to.place → to ≡ move_on n from → n ≤ length (rest from) → Rises old mid 0 (token_looks (drop 1 (rest from)) n)
+  pub token_paced : from.place < to.place → to ≡ move_on n from → n ≤ length (rest from) → Rises old mid 0 (token_looks (drop 1 (rest from)) n)
       → mid + units_left from ≤ new + units_left to → new + units_left to ≤ mid + units_left from + 2 * (n - 1) → IsTokenPaced old new from to
   token_paced on is within first least more =
       let place : to.place ≡ min (from.place + n) (length from.units) = ap (λ (r : Cursor). r.place) is in

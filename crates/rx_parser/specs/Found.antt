@@ -13,7 +13,7 @@ use Rattle.rx_model.specs.Reading.Fronts.{boundary_at, front}
 use Rattle.rx_model.specs.Groups.GroupNameReading.{name_of}
 use Rattle.rx_model.specs.FirstPass.Marks.{starts}
 use Rattle.rx_model.specs.Properties.PropertyForms.{begins_property}
-use Rattle.rx_model.specs.Reading.FrontReading.{FrontHalt, ends_here, last_backslash, out_of_order, too_large, many_decimal_digits, many_hex_digits, no_unicode_escape, in_name, no_angle, no_such_group, in_modifiers, FrontRead, token_read, property_begins, class_begins, halted, front_read}
+use Rattle.rx_model.specs.Reading.FrontReading.{FrontHalt, ends_here, last_backslash, out_of_order, too_large, many_decimal_digits, many_hex_digits, no_unicode_escape, in_name, no_angle, no_such_group, in_modifiers, FrontRead, token_read, property_begins, class_begins, halted, backslash_read, front_read}
 use Rattle.rx_model.specs.Groups.ModifierFronts.{ModifiersHalt, no_colon, letter_twice, no_letter, letter_shared}
 use Rattle.rx_model.specs.Trees.Token.{Token, Opener, boundary, character, dot, class_escape, property, class, indexed, named, opener, closer, bar, quantifier, capturing, ignoring, looking}
 use Rattle.rx_parser.specs.Names.{found_name_halt}
@@ -118,6 +118,11 @@ found_front (token_read t n) = found_token t n
 found_front property_begins = found.Property
 found_front class_begins = found.Class
 found_front (halted it) = found.Halt (found_halt it)
+
+-- Where the first unit is a backslash, the units begin with this leaf of n units, in each environment with `u` or `v`, or in each with neither.
+pub record IsCommonLeaf (unicode_mode : Bool) (us : List CodePoint) (it : Leaf) (n : ℕ) : Type 0 where
+  pub read : (e : Environment) → is_unicode e.mode ≡ unicode_mode → found_front (backslash_read e (drop 1 (values us))) ≡ found.Leaf it n
+  pub long : 2 ≤ n
 
 -- no token is read here, for this reason
 abbrev pub IsHalt : Environment → List CodePoint → Halt → Type 0

@@ -1,10 +1,12 @@
 -- What a parser of literals or of arguments is given, as an input of the definitions.
-use Rattle.std.specs.Prelude.{ℕ, List, Option, Some, None, length}
+use Rattle.std.specs.Prelude.{ℕ, List, [], ◌∷◌, ◌++◌, Option, Some, None, length}
+use Rattle.rx_base.specs.Ascii as ascii
 use Rattle.std.specs.Borrow.{Bor}
 use Rattle.std.specs.Str.{chars}
 use Rattle.rx_model.specs.declared.form.Form.{Form}
 use Rattle.rx_model.specs.declared.form.Form.TheVariants.{Literal, Constructor}
-use Rattle.rx_model.specs.Inputs.Inputs.{Input}
+use Rattle.rx_model.specs.declared.mode.Mode.{Mode}
+use Rattle.rx_model.specs.Inputs.Inputs.{Input, flags_for}
 use Rattle.rx_model.specs.declared.rules.Rules.{Rules}
 use Rattle.rx_parser.specs.declared.options.Options.{Options}
 
@@ -17,6 +19,11 @@ flags_chars (Some flags) = Some (chars flags.now)
 abbrev pub flags_length : Option (Bor (List ℕ)) → ℕ
 flags_length None = 0
 flags_length (Some flags) = length flags.now
+
+-- the flags text that asks for a mode and for nothing else, of a constructor in double quotes
+abbrev pub lone_flags : Form → Mode → List ℕ
+lone_flags Literal mode = flags_for mode
+lone_flags Constructor mode = ascii.quotation_mark ∷ flags_for mode ++ ascii.quotation_mark ∷ []
 
 -- how many bytes stand in for an empty text
 abbrev pub stand_in_length : Form → ℕ

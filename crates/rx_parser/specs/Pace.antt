@@ -1,5 +1,5 @@
 -- How many steps the readers of tokens take, where a step is a unit that is moved over, or a turn of a loop that looks ahead.
-use Rattle.std.specs.Prelude.{◌≡◌, ℕ, ◌+◌, ◌-◌, ◌*◌, ◌≤◌, not, List, length, drop, min, Result, MatchResult}
+use Rattle.std.specs.Prelude.{◌≡◌, Bool, ℕ, ◌+◌, ◌-◌, ◌*◌, ◌≤◌, not, List, length, drop, min, Result, MatchBool, MatchResult}
 use Rattle.std.specs.List.{prefix_len}
 use Rattle.rx_base.specs.Rising.{Rises}
 use Rattle.rx_tables.specs.Characters.{is_decimal_digit, is_syntax_character}
@@ -113,3 +113,15 @@ IsTurnPaced old new from to =
 abbrev pub TakesTurn : {A E : Type 0} → ℕ → ℕ → Cursor → Cursor → Result A E → Type 0
 TakesTurn old new from to result =
     MatchResult result (λ _. IsTurnPaced old new from to) (λ _. new + 2 * plain (rest from) ≤ old + 7 * units_left from + 8)
+
+-- A call that may read a token keeps its pace where it answers `true`, and takes no step where it answers `false`; one that is refused is bounded.
+abbrev pub MayTakeToken : {E : Type 0} → ℕ → ℕ → Cursor → Cursor → Result Bool E → Type 0
+MayTakeToken old new from to result =
+    MatchResult result (λ it. MatchBool it (IsTokenPaced old new from to) (new ≡ old)) (λ _. new ≤ old + 7 * units_left from + 7)
+
+-- A call that may take a turn keeps the pace where it answers `true`. Where it answers `false`, no unit that stands next stands for itself, and it takes a step at most;
+-- one that is refused is bounded.
+abbrev pub MayTakeTurn : {E : Type 0} → ℕ → ℕ → Cursor → Cursor → Result Bool E → Type 0
+MayTakeTurn old new from to result =
+    MatchResult result (λ it. MatchBool it (IsTurnPaced old new from to) (Rises old new 0 1 × (plain (rest from) ≡ 0)))
+    (λ _. new + 2 * plain (rest from) ≤ old + 7 * units_left from + 8)

@@ -1,4 +1,4 @@
-ghost use Rattle.std.specs.Prelude.{◌≡◌, ◌+◌, ◌-◌, ◌^◌, ◌<◌, ◌∷◌, ℕ, false, drop, length, if◌then◌else◌};
+ghost use Rattle.std.specs.Prelude.{◌≡◌, ◌+◌, ◌-◌, ◌^◌, ◌<◌, ◌∷◌, ℕ, IfSome, false, drop, length, if◌then◌else◌};
 ghost use Rattle.rx_base.specs.Rising.{Rises};
 ghost use Rattle.rx_units.specs.Units.{values};
 ghost use Rattle.rx_ast.specs.declared.leaf.CharacterKind.{CharacterKind};
@@ -12,7 +12,7 @@ ghost use Rattle.rx_model.specs.Reading.FrontReading.{are_out_of_order, are_too_
 ghost use Rattle.rx_model.specs.Reading.Fronts.{is_raw_at};
 ghost use Rattle.rx_model.specs.Reading.Rows.{is_legacy_syntax, stands_raw};
 ghost use Rattle.rx_scan.specs.Environments.{seen_environment};
-ghost use Rattle.rx_parser.specs.Found.{boundary_front, found_front, found_halt};
+ghost use Rattle.rx_parser.specs.Found.{IsCommonLeaf, boundary_front, found_front, found_halt};
 ghost use Rattle.rx_parser.specs.Pace.{LooksAtEscape, LooksAtSyntax, MayFind, looks, plain};
 
 use crate::ahead::stands_at;
@@ -20,7 +20,7 @@ use crate::counts::{CountsFound, begins_with_counts, counts_at};
 use crate::found::{Found, Halt, Leaf};
 use crate::group::group_at;
 use crate::reference::{indexed_reference, is_reference, named_reference};
-use rx_ast::BoundaryAssertionKind;
+use rx_ast::{BoundaryAssertionKind, CharacterClassEscapeKind};
 use rx_base::Counter;
 use rx_class::{EscapeFound, any_escape_at, class_escape_at, common_escape_at, unit_kind};
 use rx_model::Mode;
@@ -109,6 +109,38 @@ fn boundary_at(following: &[CodePoint], environment: Environment) -> Option<Boun
     }
 }
 
+/// The leaf that the units, of which the first is a backslash, begin with, and its length in units, where it is an escape that most are: one that
+/// `common_escape_at` finds, a class escape but a property's, or `\b` or `\B`. `None` says nothing: another leaf may stand there.
+///
+/// It counts no step. The caller that takes the leaf counts one for each unit past the second.
+#[inline(always)]
+pub fn common_leaf_at(units: &[CodePoint], unicode_mode: bool) -> Option<(Leaf, usize)>
+    ensures { IfSome result (λ it. IsCommonLeaf unicode_mode units.now it.0 it.1) }
+{
+    let [_, following @ ..] = units else {
+        return None;
+    };
+    if let Some(it) = common_escape_at(following, unicode_mode) {
+        let leaf = Leaf::Character {
+            kind: it.kind,
+            value: it.value,
+        };
+        return Some((leaf, it.length + 1));
+    }
+    let leaf = match char::from_u32(following.first()?.value) {
+        Some('d') => Leaf::ClassEscape(CharacterClassEscapeKind::D),
+        Some('D') => Leaf::ClassEscape(CharacterClassEscapeKind::NegativeD),
+        Some('s') => Leaf::ClassEscape(CharacterClassEscapeKind::S),
+        Some('S') => Leaf::ClassEscape(CharacterClassEscapeKind::NegativeS),
+        Some('w') => Leaf::ClassEscape(CharacterClassEscapeKind::W),
+        Some('W') => Leaf::ClassEscape(CharacterClassEscapeKind::NegativeW),
+        Some('b') => Leaf::Boundary(BoundaryAssertionKind::Boundary),
+        Some('B') => Leaf::Boundary(BoundaryAssertionKind::NegativeBoundary),
+        _ => return None,
+    };
+    Some((leaf, 2))
+}
+
 /// What a backslash and the units after it begin with (AtomEscape and Assertion of ECMA-262, 22.2.1).
 fn backslash_at<C: Counter>(
     following: &[CodePoint],
@@ -122,16 +154,6 @@ fn backslash_at<C: Counter>(
     let [first, more @ ..] = following else {
         return Found::Halt(after_last_backslash(environment.mode));
     };
-    if let Some(it) = common_escape_at(following, environment.is_unicode()) {
-        steps.add(it.length - 1);
-        return Found::Leaf {
-            leaf: Leaf::Character {
-                kind: it.kind,
-                value: it.value,
-            },
-            length: it.length + 1,
-        };
-    }
     if is_reference(following, environment, steps) {
         return indexed_reference(following, environment.groups, steps);
     }

@@ -1,9 +1,9 @@
-ghost use Rattle.std.specs.Prelude.{◌≡◌, ◌+◌, ◌<◌, ◌≤◌, ◌^◌, [], max, IfErr, IfOk, length};
+ghost use Rattle.std.specs.Prelude.{◌≡◌, ◌+◌, ◌<◌, ◌≤◌, ◌^◌, [], max, IfErr, IfOk, IfSome, length};
 ghost use Rattle.std.specs.Str.{chars};
 ghost use Rattle.rx_class.specs.Fitting.{AreFitting};
 ghost use Rattle.rx_model.specs.Inputs.Modes.{mode_by};
 ghost use Rattle.rx_model.specs.Inputs.Texts.{literal_text, quoted_text, some_units};
-ghost use Rattle.rx_parser.specs.Inputs.{flags_length, stand_in_length};
+ghost use Rattle.rx_parser.specs.Inputs.{flags_length, lone_flags, stand_in_length};
 
 use crate::{Options, PatternParser};
 use rx_ast::Pattern;
@@ -58,6 +58,9 @@ impl<'a> Input<'a> {
         match self.flags_text {
             None => Ok(Mode::Legacy),
             Some(flags) => {
+                if let Some(mode) = lone_mode(self.form, flags) {
+                    return Ok(mode);
+                }
                 let span_offset = self.options.flags_span_offset;
                 let reader = self.reader_of(alloc, flags, true, span_offset)?;
                 let modes = FlagsParser::new(reader, span_offset).parse()?;
@@ -149,6 +152,27 @@ fn mode_flags(mode: Mode) -> (bool, bool)
         Mode::Legacy => (false, false),
         Mode::Unicode => (true, false),
         Mode::Sets => (true, true),
+    }
+}
+
+/// The mode that a flags text asks for where the flags are none, `u` or `v` alone, of a constructor in double quotes. `None` does not mean that it is wrong.
+// Why: docs/DECISIONS.md, 128.
+fn lone_mode(form: Form, flags: &str) -> Option<Mode>
+    ensures { IfSome result (λ mode. chars flags.now ≡ lone_flags form mode) }
+{
+    match form {
+        Form::Literal => match flags {
+            "" => Some(Mode::Legacy),
+            "u" => Some(Mode::Unicode),
+            "v" => Some(Mode::Sets),
+            _ => None,
+        },
+        Form::Constructor => match flags {
+            "\"\"" => Some(Mode::Legacy),
+            "\"u\"" => Some(Mode::Unicode),
+            "\"v\"" => Some(Mode::Sets),
+            _ => None,
+        },
     }
 }
 

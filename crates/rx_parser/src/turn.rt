@@ -1,22 +1,27 @@
-ghost use Rattle.std.specs.Prelude.{◌≡◌, ◌+◌, ◌-◌, ◌*◌, ◌≤◌, ◌<◌, false, All, IfErr, IfOk, OnOk, drop, length, take};
+ghost use Rattle.std.specs.Prelude.{◌≡◌, ◌+◌, ◌-◌, ◌*◌, ◌≤◌, ◌<◌, ◌∷◌, [], false, true, All, IfErr, IfOk, IfSome, IsTrue, OnOk, Some, codes, drop, length, take};
+ghost use Rattle.rx_base.specs.Ascii as ascii;
+ghost use Rattle.rx_base.specs.Characters.{is_one_of};
 ghost use Rattle.rx_base.specs.Rising.{Rises};
 ghost use Rattle.rx_tables.specs.Characters.{is_syntax_character};
-ghost use Rattle.rx_units.specs.Cursor.{move_on, offset_of, rest};
-ghost use Rattle.rx_units.specs.Pace.{IsMove, TakesSteps};
+ghost use Rattle.rx_units.specs.Cursor.{front, move_on, offset_of, rest};
+ghost use Rattle.rx_units.specs.Pace.{IsMove, TakesSteps, units_left};
 ghost use Rattle.rx_class.specs.Fitting.{AreFitting};
+ghost use Rattle.rx_model.specs.Quantifiers.CountsReading.{counts_read, counts_read_at};
 ghost use Rattle.rx_parser.specs.Faults.{IsSmall};
 ghost use Rattle.rx_parser.specs.declared.found.Halt.{Halt};
+ghost use Rattle.rx_parser.specs.declared.found.OpenerFound.{OpenerFound};
 ghost use Rattle.rx_parser.specs.GroupKinds.{IsGroupKindOf};
-ghost use Rattle.rx_parser.specs.Pace.{MovesOver, TakesToken, TakesTurn, looks, plain};
+ghost use Rattle.rx_parser.specs.Pace.{MayTakeToken, MayTakeTurn, MovesOver, TakesToken, TakesTurn, looks, plain};
 ghost use Rattle.rx_parser.specs.Turns.{HasTurned, IsBefore, HasMore, IsTurned, RefusesText, StandsNext};
 
+use crate::ahead::stands_at;
 use crate::builder::Builder;
 use crate::fault::{fault, here, lone_quantifier, span_ahead};
 use crate::found::{Found, Halt, Leaf, OpenerFound};
 use crate::frame::GroupKind;
-use crate::front::front_at;
+use crate::front::{common_leaf_at, front_at};
 use crate::term::{class_term, name_in, named_term, property_term, term};
-use rx_ast::{CharacterClassContents, Modifiers};
+use rx_ast::{BoundaryAssertionKind, CharacterClassContents, Modifiers};
 use rx_base::{Counter, Diagnostic, Fault, List, OutOfMemory, Span, Text};
 use rx_class::{parse_character_class_escape_unicode, parse_character_class_with_list, unit_kind};
 use rx_scan::{Environment, SpanFactory, State};
@@ -41,27 +46,171 @@ impl<'a> Parse<'a> {
     /// Reads one token, and gives it to the builder. A unit that is no SyntaxCharacter stands for itself in every mode (PatternCharacter of ECMA-262, 22.2.1), so
     /// nothing else is looked for there.
     // Why: docs/DECISIONS.md, 41.
-    #[inline]
+    #[inline(always)]
     pub fn turn<C: Counter>(&mut self, steps: &mut C) -> Result<(), Fault>
         requires { HasMore self.old }
         ensures turned { OnOk result (HasTurned self.old self.new) }
         ensures refused { IfErr result (RefusesText self.old) }
         ensures steps { TakesTurn (C.count steps.old) (C.count steps.new) self.old.reader self.new.reader result }
     {
+        if self.take_common(steps)? {
+            return Ok(());
+        }
+        if first_byte(self.reader.remaining_code_points()) == Some(b'[') {
+            return self.class(steps);
+        }
+        self.take_found(steps)
+    }
+
+    /// Reads what stands where the reader does, and gives it to the builder, where it is a run of units that stand for themselves or a token that most are.
+    /// Else the answer is `false`, whatever stands there, and nothing changes.
+    #[inline(always)]
+    fn take_common<C: Counter>(&mut self, steps: &mut C) -> Result<bool, OutOfMemory>
+        requires { HasMore self.old }
+        ensures turned { IfOk result (λ it. IsTrue it → HasTurned self.old self.new) }
+        ensures kept { IfOk result (λ it. it ≡ false → self.new ≡ self.old) }
+        ensures steps { MayTakeTurn (C.count steps.old) (C.count steps.new) self.old.reader self.new.reader result }
+    {
         let count = plain_length(self.reader.remaining_code_points(), steps);
         if count == 0 {
-            return self.take_found(steps);
+            return self.take_by_first_unit(steps);
         }
-        Ok(plain_run(
+        plain_run(
             &mut self.reader,
             &self.spans,
             &mut self.builder,
             count,
             steps,
-        )?)
+        )?;
+        Ok(true)
+    }
+
+    /// Reads a token that most are, which its first unit tells, and gives it to the builder. Else the answer is `false`, whatever stands there, and nothing
+    /// changes.
+    #[inline(always)]
+    fn take_by_first_unit<C: Counter>(&mut self, steps: &mut C) -> Result<bool, OutOfMemory>
+        requires { HasMore self.old }
+        ensures turned { IfOk result (λ it. IsTrue it → HasTurned self.old self.new) }
+        ensures kept { IfOk result (λ it. it ≡ false → self.new ≡ self.old) }
+        ensures steps { MayTakeToken (C.count steps.old) (C.count steps.new) self.old.reader self.new.reader result }
+    {
+        match first_byte(self.reader.remaining_code_points()) {
+            Some(b'|') => {
+                self.bar(steps)?;
+                Ok(true)
+            }
+            Some(b'.') => {
+                self.take_leaf(Leaf::Dot, 1, steps)?;
+                Ok(true)
+            }
+            Some(b'^') => {
+                self.take_leaf(Leaf::Boundary(BoundaryAssertionKind::Start), 1, steps)?;
+                Ok(true)
+            }
+            Some(b'$') => {
+                self.take_leaf(Leaf::Boundary(BoundaryAssertionKind::End), 1, steps)?;
+                Ok(true)
+            }
+            Some(b')') => self.take_closer(steps),
+            Some(b'\\') => self.take_escape(steps),
+            Some(b'(') => self.take_opener(steps),
+            Some(sign) if is_sign(sign) => self.take_repeat(sign, steps),
+            _ => Ok(false),
+        }
+    }
+
+    /// The offset after the next n units, with the offset of the spans added.
+    #[inline(always)]
+    fn end_after(&self, length: usize) -> u32
+        requires some { 0 < length }
+        requires within { length ≤ units_left self.now.reader }
+        requires fits { AreFitting self.now.spans self.now.reader }
+        ensures { result ≡ offset_of (move_on length self.now.reader) + self.now.spans }
+    {
+        let end = self.reader.remaining_code_points()[length - 1].span.end;
+        self.spans.create(end, end).end
+    }
+
+    /// Reads the escape that begins where the reader stands, where it is one that most are. Else the answer is `false`, and nothing changes.
+    #[inline(always)]
+    fn take_escape<C: Counter>(&mut self, steps: &mut C) -> Result<bool, OutOfMemory>
+        requires more { HasMore self.old }
+        requires stands { front (rest self.old.reader) ≡ Some ascii.backslash }
+        ensures turned { IfOk result (λ it. IsTrue it → HasTurned self.old self.new) }
+        ensures kept { IfOk result (λ it. it ≡ false → self.new ≡ self.old) }
+        ensures steps { MayTakeToken (C.count steps.old) (C.count steps.new) self.old.reader self.new.reader result }
+    {
+        let units = self.reader.remaining_code_points();
+        let Some((leaf, length)) = common_leaf_at(units, self.builder.mode.is_unicode()) else {
+            return Ok(false);
+        };
+        steps.add(length - 2);
+        self.take_leaf(leaf, length, steps)?;
+        Ok(true)
+    }
+
+    /// Reads what a group begins with, where it is `(` alone or `(?:`. Else the answer is `false`, and nothing changes.
+    #[inline(always)]
+    fn take_opener<C: Counter>(&mut self, steps: &mut C) -> Result<bool, OutOfMemory>
+        requires more { HasMore self.old }
+        requires stands { front (rest self.old.reader) ≡ Some ascii.left_parenthesis }
+        ensures turned { IfOk result (λ it. IsTrue it → HasTurned self.old self.new) }
+        ensures kept { IfOk result (λ it. it ≡ false → self.new ≡ self.old) }
+        ensures steps { MayTakeToken (C.count steps.old) (C.count steps.new) self.old.reader self.new.reader result }
+    {
+        let units = self.reader.remaining_code_points();
+        if !stands_at(units, 1, '?') {
+            self.open_as(GroupKind::Capturing(None), 1, steps)?;
+            return Ok(true);
+        }
+        if !stands_at(units, 2, ':') {
+            return Ok(false);
+        }
+        self.open_as(GroupKind::Ignoring(None), 3, steps)?;
+        Ok(true)
+    }
+
+    /// Reads a `)` where a group or a look-around is open, and ends it. Else the answer is `false`, and nothing changes.
+    #[inline(always)]
+    fn take_closer<C: Counter>(&mut self, steps: &mut C) -> Result<bool, OutOfMemory>
+        requires more { HasMore self.old }
+        requires found { StandsNext self.old Found.Close }
+        ensures turned { IfOk result (λ it. IsTrue it → HasTurned self.old self.new) }
+        ensures kept { IfOk result (λ it. it ≡ false → self.new ≡ self.old) }
+        ensures steps { MayTakeToken (C.count steps.old) (C.count steps.new) self.old.reader self.new.reader result }
+    {
+        let start = here(&self.reader, &self.spans);
+        let end = self.end_after(1);
+        if !self.builder.close(self.alloc, start, end)? {
+            return Ok(false);
+        }
+        self.reader.skip_counted(1, steps);
+        Ok(true)
+    }
+
+    /// Reads a quantifier that begins with this value, `*`, `+` or `?`, and gives it the last term as its body, where that may have one. Else the answer is
+    /// `false`, and nothing changes.
+    #[inline(always)]
+    fn take_repeat<C: Counter>(&mut self, sign: u8, steps: &mut C) -> Result<bool, OutOfMemory>
+        requires more { HasMore self.old }
+        requires one { is_one_of (codes "*+?") sign ≡ true }
+        requires stands { front (rest self.old.reader) ≡ Some sign }
+        ensures turned { IfOk result (λ it. IsTrue it → HasTurned self.old self.new) }
+        ensures kept { IfOk result (λ it. it ≡ false → self.new ≡ self.old) }
+        ensures steps { MayTakeToken (C.count steps.old) (C.count steps.new) self.old.reader self.new.reader result }
+    {
+        let is_lazy = stands_at(self.reader.remaining_code_points(), 1, '?');
+        let length = 1 + is_lazy as usize;
+        let end = self.end_after(length);
+        if !self.builder.quantify(sign_counts(sign), !is_lazy, end)? {
+            return Ok(false);
+        }
+        self.reader.skip_counted(length, steps);
+        Ok(true)
     }
 
     /// Reads the token that is found where the reader stands, and gives it to the builder.
+    #[inline(never)]
     fn take_found<C: Counter>(&mut self, steps: &mut C) -> Result<(), Fault>
         requires { HasMore self.old }
         ensures turned { OnOk result (HasTurned self.old self.new) }
@@ -69,13 +218,13 @@ impl<'a> Parse<'a> {
         ensures steps { TakesToken (C.count steps.old) (C.count steps.new) self.old.reader self.new.reader result }
     {
         match self.find_here(steps) {
-            Found::Leaf { leaf, length } => self.take_leaf(leaf, length, steps),
+            Found::Leaf { leaf, length } => Ok(self.take_leaf(leaf, length, steps)?),
             Found::NamedReference { length } => self.named_reference(length, steps),
             Found::Property => self.property(steps),
             Found::Class => self.class(steps),
             Found::Open { opener, length } => self.open(opener, length, steps),
             Found::Close => self.close(steps),
-            Found::Bar => self.bar(steps),
+            Found::Bar => Ok(self.bar(steps)?),
             Found::Quantifier {
                 min,
                 max,
@@ -104,16 +253,14 @@ impl<'a> Parse<'a> {
         leaf: Leaf,
         length: usize,
         steps: &mut C,
-    ) -> Result<(), Fault>
+    ) -> Result<(), OutOfMemory>
         requires more { HasMore self.old }
         requires found { StandsNext self.old (Found.Leaf leaf length) }
         ensures turned { OnOk result (HasTurned self.old self.new) }
-        ensures refused { IfErr result (RefusesText self.old) }
         ensures steps { MovesOver length (C.count steps.old) (C.count steps.new) self.old.reader self.new.reader result }
     {
         let span = span_over(&mut self.reader, &self.spans, length, steps);
-        self.builder.leaf(term(leaf, span))?;
-        Ok(())
+        self.builder.leaf(term(leaf, span))
     }
 
     /// Reads a reference by name of n units, and gives it to the builder.
@@ -163,6 +310,7 @@ impl<'a> Parse<'a> {
     }
 
     /// Reads a class, and gives it to the builder.
+    #[inline(never)]
     fn class<C: Counter>(&mut self, steps: &mut C) -> Result<(), Fault>
         requires more { HasMore self.old }
         requires found { StandsNext self.old Found.Class }
@@ -199,10 +347,26 @@ impl<'a> Parse<'a> {
         ensures steps { MovesOver length (C.count steps.old) (C.count steps.new) self.old.reader self.new.reader result }
     {
         let group_kind = self.group_kind(opener, length, steps)?;
+        Ok(self.open_as(group_kind, length, steps)?)
+    }
+
+    /// Reads n units, which a group or a look-around of this kind begins with, and opens it in the builder.
+    #[inline(always)]
+    fn open_as<C: Counter>(
+        &mut self,
+        group_kind: GroupKind,
+        length: usize,
+        steps: &mut C,
+    ) -> Result<(), OutOfMemory>
+        requires more { HasMore self.old }
+        requires found { (opener : OpenerFound) × StandsNext self.old (Found.Open opener length) × IsGroupKindOf self.old.builder.mode self.old.reader self.old.spans length opener group_kind }
+        ensures turned { OnOk result (HasTurned self.old self.new) }
+        ensures reader { self.new.reader ≡ move_on length self.old.reader }
+        ensures steps { IsMove (C.count steps.old) (C.count steps.new) self.old.reader self.new.reader }
+    {
         let span = span_over(&mut self.reader, &self.spans, length, steps);
         self.builder
-            .open(self.alloc, group_kind, span.start, span.end)?;
-        Ok(())
+            .open(self.alloc, group_kind, span.start, span.end)
     }
 
     /// What a group or look-around of n units, which stands next, begins with. The reader stays where it stands.
@@ -244,6 +408,7 @@ impl<'a> Parse<'a> {
     }
 
     /// Reads a `)`, and ends a group or a look-around in the builder.
+    #[inline(always)]
     fn close<C: Counter>(&mut self, steps: &mut C) -> Result<(), Fault>
         requires more { HasMore self.old }
         requires found { StandsNext self.old Found.Close }
@@ -260,20 +425,20 @@ impl<'a> Parse<'a> {
     }
 
     /// Reads a bar, and begins an alternative in the builder.
-    fn bar<C: Counter>(&mut self, steps: &mut C) -> Result<(), Fault>
+    #[inline(always)]
+    fn bar<C: Counter>(&mut self, steps: &mut C) -> Result<(), OutOfMemory>
         requires more { HasMore self.old }
         requires found { StandsNext self.old Found.Bar }
         ensures turned { OnOk result (HasTurned self.old self.new) }
-        ensures refused { IfErr result (RefusesText self.old) }
         ensures steps { MovesOver 1 (C.count steps.old) (C.count steps.new) self.old.reader self.new.reader result }
     {
         let span = span_over(&mut self.reader, &self.spans, 1, steps);
-        self.builder.bar(self.alloc, span.start, span.end)?;
-        Ok(())
+        self.builder.bar(self.alloc, span.start, span.end)
     }
 
     /// Reads a quantifier of n units with these counts, and gives it the last term as its body.
     // Why: docs/DECISIONS.md, 20.
+    #[inline(always)]
     fn quantify<C: Counter>(
         &mut self,
         counts: (u64, Option<u64>),
@@ -295,8 +460,41 @@ impl<'a> Parse<'a> {
     }
 }
 
+/// The value of the first unit, where it is an ASCII character.
+#[inline(always)]
+fn first_byte(units: &[CodePoint]) -> Option<u8>
+    ensures { IfSome result (λ byte. front units.now ≡ Some byte) }
+{
+    match units {
+        [first, ..] if first.value < 128 => Some(first.value as u8),
+        _ => None,
+    }
+}
+
+/// The counts of `*`, `+` or `?` (QuantifierPrefix of ECMA-262, 22.2.1).
+#[inline(always)]
+#[tactic(auto, unfolding(rx_model::specs::Quantifiers::CountsReading::counts_read_at))]
+fn sign_counts(sign: u8) -> (u64, Option<u64>)
+    requires { is_one_of (codes "*+?") sign ≡ true }
+    ensures { counts_read_at (sign ∷ []) ≡ counts_read result.0 result.1 1 }
+{
+    match sign {
+        b'+' => (1, None),
+        b'?' => (0, Some(1)),
+        _ => (0, None),
+    }
+}
+
+/// Whether a value is one of `*`, `+` and `?`.
+#[inline(always)]
+fn is_sign(byte: u8) -> bool
+    ensures { result ≡ is_one_of (codes "*+?") byte }
+{
+    matches!(byte, b'*' | b'+' | b'?')
+}
+
 /// How many units stand for themselves before the first that does not.
-#[inline]
+#[inline(always)]
 #[tactic(auto, using(crate::proofs::PlainRuns::plain_more, crate::proofs::Paces::plain_next, crate::proofs::Paces::plain_stops, crate::proofs::Paces::plain_ends))]
 fn plain_length<C: Counter>(units: &[CodePoint], steps: &mut C) -> usize
     ensures within { result ≤ length units.now }
@@ -330,16 +528,16 @@ fn plain_run<C: Counter>(
     ensures least { OnOk result (C.count steps.new ≡ C.count steps.old + 2 * count) }
 {
     builder.level.reserve(count)?;
-    let mut start = reader.offset();
+    let mut start = here(reader, spans);
     for unit in &reader.remaining_code_points()[..count] {
         steps.tick();
-        let span = spans.create(start, unit.span.end);
+        let end = spans.create(unit.span.end, unit.span.end).end;
         let leaf = Leaf::Character {
             kind: unit_kind(unit.escape_kind),
             value: unit.value,
         };
-        builder.leaf(term(leaf, span))?;
-        start = unit.span.end;
+        builder.leaf(term(leaf, Span::new(start, end)))?;
+        start = end;
     }
     reader.skip_counted(count, steps);
     Ok(())

@@ -1,12 +1,9 @@
-use Rattle.std.proofs.Common.{ap, ◌∙◌, ◌+◌, arith, length, sym}
-use Rattle.rx_parser.proofs.Common.{common_steps, Rises, found_front, plain, seen_environment, unit}
+use Rattle.std.proofs.Common.{◌∙◌, ◌+◌, arith, length, sym}
+use Rattle.rx_parser.proofs.Common.{common_steps, Rises, plain, unit}
 use Rattle.rx_units.specs.declared.code_point.EscapeKind.TheVariants as kind
 use Rattle.rx_parser.proofs.Looks.{escape_steps, property_run, syntax_steps}
 use Rattle.rx_parser.proofs.Paces.{run_under_plain}
 use Rattle.rx_parser.proofs.front.backslash_at.Goals as goal
-
-pub returns-in-Some-clause-found : goal.returns-in-Some-clause-found
-returns-in-Some-clause-found g c = ap found_front (sym (c.in-Some.ensures.alone (seen_environment c.args.environment) (sym c.is_unicode.ensures)))
 
 pub returns-then-is_reference-clause-steps : goal.returns-then-is_reference-clause-steps
 returns-then-is_reference-clause-steps g c =

@@ -2,6 +2,7 @@ use Rattle.std.proofs.Common.{◌≡◌, ap, refl, sym, subst, true, []}
 use Rattle.std.specs.Str.{chars}
 use Rattle.rx_parser.proofs.Common.{Diagnostic, Cursor, values, Legacy, first_offset, no_flags, seen_input, flags_ok, modes_of, AsksFor, IsFlagCause, flags_chars, input_of}
 use Rattle.rx_parser.proofs.Inputs.{passed_fault, right_flags, unread_flags, wrong_flags}
+use Rattle.rx_parser.proofs.LoneFlags.{lone_asks}
 use Rattle.rx_parser.proofs.input.Input.mode.Goals as goal
 
 pub returns-in-None-clause-asked : goal.returns-in-None-clause-asked
@@ -9,6 +10,9 @@ returns-in-None-clause-asked c =
     let it = c.args.self.now in
     subst (λ flags. AsksFor (input_of it.form it.pattern_text.now flags it.options) Legacy) (sym c.in-None.is)
     (record { flags = []; flags_are = no_flags; are_right = refl; mode_is = refl })
+
+pub returns-in-Some-lone_mode-clause-asked : goal.returns-in-Some-lone_mode-clause-asked
+returns-in-Some-lone_mode-clause-asked c = lone_asks (seen_input c.args.self.now) (chars c.in-Some.flags.now) c.in-Some-lone_mode.mode (ap flags_chars c.in-Some.is) c.in-Some-lone_mode.ensures
 
 pub returns-in_err-reader-in-Some-clause-refused : goal.returns-in_err-reader-in-Some-clause-refused
 returns-in_err-reader-in-Some-clause-refused c =
