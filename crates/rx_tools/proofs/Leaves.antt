@@ -1,11 +1,18 @@
 -- How writes of fronts compose.
-use Rattle.std.proofs.Common.{◌≡◌, refl, ap, sym, ◌∙◌, ℕ, arith, Bool, true, false, List, [], ◌++◌, append_assoc, Option, Result, Ok, Err}
+use Rattle.std.proofs.Common.{◌≡◌, refl, ap, sym, ◌∙◌, ℕ, arith, Bool, true, false, Bor, List, [], ◌∷◌, ◌++◌, append_assoc, Option, Result, Ok, Err}
 use Rattle.std.proofs.KnownBytes.{Appends-nil}
 use Rattle.std.proofs.lemmas.Bool.{false≢true}
 use Rattle.std.specs.Result.{IsErr}
+use Rattle.rx_ast.specs.declared.leaf.Character.{Character}
+use Rattle.rx_ast.specs.declared.term.Term.{Term}
+use Rattle.rx_ast.specs.declared.term.Term.TheVariants as term
+use Rattle.rx_ast.proofs.Equations.{character_is}
 use Rattle.rx_base.specs.Writing.{Written}
 use Rattle.rx_base.proofs.Writing.{written_none}
-use Rattle.rx_tools.specs.Leaves.{WritesFront, unless_left}
+use Rattle.rx_model.specs.declared.mode.Mode.{Mode}
+use Rattle.rx_model.specs.Spelling.CharacterText.{character_text, outside}
+use Rattle.rx_tools.specs.declared.leaf.Rest.{Rest}
+use Rattle.rx_tools.specs.Leaves.{WritesFront, rest_text, unless_left}
 use Rattle.rx_tools.specs.Utf8.{utf8}
 use Rattle.rx_tools.proofs.Pieces.{utf8-nil, same_text, text_then}
 
@@ -76,3 +83,8 @@ front_then {result = Ok y} {later_text} a b =
     front_written y (a.front.0 ++ b.front.0) (text_then a.front.0 b.front.0 (front_is a) (front_is b))
     (a.front.2 ∙ ap (λ after. a.front.0 ++ after) b.front.2 ∙ sym (append_assoc a.front.0 b.front.0 (later_text y)))
 front_then {result = Err e} a b = front_fails (front_rest a (fails_front b refl)) refl
+
+-- a character that is spelled as itself, and what is after it
+pub plain_cut : (mode : Mode) (rest : Rest) (first : Term) (it : Character) (others : Bor (List Term)) → rest.terms.now ≡ first ∷ others.now → first ≡ term.Character it →
+    character_text mode (outside rest.after_reference) it.value ≡ it.value ∷ [] → rest_text mode rest ≡ (it.value ∷ []) ++ rest_text mode (record { after_reference = false; terms = others })
+plain_cut mode rest first it others cut is plain = rw (cut, is, character_is it, plain) refl

@@ -5,7 +5,7 @@ use Rattle.std.proofs.lemmas.Bool.Decides.{nat_tests}
 use Rattle.rx_base.specs.Characters.{is_surrogate, is_within}
 use Rattle.rx_model.specs.declared.mode.Mode.{Mode}
 use Rattle.rx_model.specs.declared.mode.Mode.TheVariants.{Legacy, Unicode, Sets}
-use Rattle.rx_model.specs.Spelling.CharacterText.{Place, outside, in_class, character_text, is_escaped, goes_on, greatest_raw}
+use Rattle.rx_model.specs.Spelling.CharacterText.{Place, outside, in_class, character_text, is_escaped, goes_on, greatest_raw, surrogate_text}
 
 always_raw : (mode : Mode) (c : ℕ) → c < 127 → nat_lt (greatest_raw mode) c ≡ false
 always_raw Legacy c h = grind (arith, nat_tests)
@@ -52,3 +52,12 @@ far_text mode place c low raw separator surrogate =
     let two_digits : (nat_lt c 32 || is_within 127 159 c) ≡ false = grind (arith, nat_tests) in
     let read : nat_lt (greatest_raw mode) c ≡ false = grind (arith, nat_tests) in
     rw (control, two_digits, separator, surrogate, read, never_escaped mode place c low, never_goes_on place c low) refl
+
+-- the row of surrogates
+pub surrogate_row : (mode : Mode) (place : Place) (c : ℕ) → is_surrogate c ≡ true → character_text mode place c ≡ surrogate_text mode c
+unfolding character_text
+surrogate_row mode place c surrogate =
+    let control : is_within 9 13 c ≡ false = grind (arith, nat_tests) in
+    let two_digits : (nat_lt c 32 || is_within 127 159 c) ≡ false = grind (arith, nat_tests) in
+    let separator : (c == 0x2028 || c == 0x2029) ≡ false = grind (arith, nat_tests) in
+    rw (control, two_digits, separator, surrogate) refl

@@ -2,7 +2,7 @@ ghost use Rattle.std.specs.Prelude.{◌≡◌, ◌∷◌, [], ◌++◌, ◌<◌,
 ghost use Rattle.std.specs.Char.{IsScalar};
 ghost use Rattle.std.specs.Str.{chars};
 ghost use Rattle.rx_base.specs.Ascii as ascii;
-ghost use Rattle.rx_base.specs.Characters.{is_within};
+ghost use Rattle.rx_base.specs.Characters.{is_surrogate as surrogate, is_within};
 ghost use Rattle.rx_base.specs.Writing.{Written};
 ghost use Rattle.rx_tables.specs.Characters.{hex_digit as hex};
 ghost use Rattle.rx_model.specs.Spelling.CharacterText.{Place as Standing, is_reserved_in_class as reserved_in_class, is_escaped as escaped, goes_on as going, greatest_raw as greatest, control_letter as letter, hex as hexadecimal, two_digits, four_digits, in_braces_text, surrogate_text, character_text};
@@ -234,7 +234,7 @@ fn write_braced<W: TextSink>(sink: &mut W, c: u32) -> Result<(), Failed>
 }
 
 /// The character of a value that is one.
-fn character(c: u32) -> char
+pub fn character(c: u32) -> char
     requires { IsScalar c }
     ensures { result ≡ c }
 {
@@ -299,7 +299,7 @@ fn is_unescaped(mode: Mode, place: Place, c: u32) -> bool
 /// Whether the character is printable ASCII, and is spelled as itself.
 #[inline(always)]
 #[tactic(auto, using(crate::proofs::Plain::unescaped_text))]
-fn is_plain(mode: Mode, place: Place, c: u32) -> bool
+pub fn is_plain(mode: Mode, place: Place, c: u32) -> bool
     ensures text { result ≡ true → character_text mode (place_of place) c ≡ c ∷ [] }
     ensures ascii { result ≡ true → c < 128 }
 {
@@ -334,6 +334,17 @@ fn write_escaped<W: TextSink>(sink: &mut W, c: u32) -> Result<(), Failed>
     write_char(sink, character(c))
 }
 
+/// Writes a lone surrogate.
+fn write_surrogate<W: TextSink>(sink: &mut W, mode: Mode, c: u32) -> Result<(), Failed>
+    requires { surrogate c ≡ true }
+    ensures { Written W.taken W.fixed W.faults sink.old sink.new result (utf8 (surrogate_text mode c)) }
+{
+    match mode {
+        Mode::Legacy => write_four_digits(sink, c),
+        Mode::Unicode | Mode::Sets => write_four_in_braces(sink, c),
+    }
+}
+
 /// Writes a character as it is spelled canonically at its place.
 #[inline(always)]
 pub fn write_character<W: TextSink>(
@@ -350,6 +361,8 @@ pub fn write_character<W: TextSink>(
         write_escaped(sink, c)
     } else if is_far_plain(mode, c) {
         write_char(sink, character(c))
+    } else if is_surrogate(c) {
+        write_surrogate(sink, mode, c)
     } else {
         write_by_form(sink, mode, place, c)
     }

@@ -1,4 +1,4 @@
-ghost use Rattle.std.specs.Prelude.{◌≡◌, ◌≤◌, true, IfOk};
+ghost use Rattle.std.specs.Prelude.{◌≡◌, ◌≤◌, false, true, IfOk};
 ghost use Rattle.rx_ast.specs.Size.{terms_size};
 ghost use Rattle.rx_ast.specs.Tree.{mirror_term, mirror_quantifier};
 ghost use Rattle.rx_base.specs.Writing.{Written};
@@ -6,7 +6,7 @@ ghost use Rattle.rx_model.specs.Spelling.Spelling.{node_text};
 ghost use Rattle.rx_tools.specs.Leaves.{WritesFront, is_leaf as stands_alone, rest_text, unless_left};
 ghost use Rattle.rx_tools.specs.Utf8.{utf8};
 
-use crate::character::{Place, write_character};
+use crate::character::{Place, character, is_plain, write_character};
 use crate::class::{is_flat, write_class};
 use crate::property::write_property;
 use crate::quantifier::write_quantifier;
@@ -148,12 +148,41 @@ pub fn write_leaves<'a, W: TextSink>(
     ensures written { WritesFront W.taken W.fixed W.faults sink.old sink.new result (rest_text mode rest.entry) (rest_text mode) }
     ensures smaller { IfOk result (λ left. terms_size left.terms.now ≤ terms_size rest.entry.terms.now) }
 {
-    while let Some((first, terms)) = rest.terms.split_first() {
-        if !write_if_leaf(sink, mode, rest.after_reference, first)? {
-            return Ok(rest);
+    loop {
+        let left = write_plain_characters(sink, mode, rest)?;
+        let Some((first, terms)) = left.terms.split_first() else {
+            return Ok(left);
+        };
+        if !write_if_leaf(sink, mode, left.after_reference, first)? {
+            return Ok(left);
         }
         rest = Rest {
             after_reference: refers(first),
+            terms,
+        };
+    }
+}
+
+/// Writes the characters before the first term that is not a character which is spelled as itself, and answers what is left.
+#[inline(always)]
+fn write_plain_characters<'a, W: TextSink>(
+    sink: &mut W,
+    mode: Mode,
+    mut rest: Rest<'a>,
+) -> Result<Rest<'a>, Failed>
+    ensures written { WritesFront W.taken W.fixed W.faults sink.old sink.new result (rest_text mode rest.entry) (rest_text mode) }
+    ensures smaller { IfOk result (λ left. terms_size left.terms.now ≤ terms_size rest.entry.terms.now) }
+{
+    while let Some((first, terms)) = rest.terms.split_first() {
+        let Term::Character(it) = first else {
+            return Ok(rest);
+        };
+        if !is_plain(mode, Place::Outside(rest.after_reference), it.value) {
+            return Ok(rest);
+        }
+        write_char(sink, character(it.value))?;
+        rest = Rest {
+            after_reference: false,
             terms,
         };
     }

@@ -9,14 +9,14 @@ ghost use Rattle.rx_model.specs.Spelling.Spelling.{alternatives_text, node_text,
 ghost use Rattle.rx_tasks.specs.Tasks.{tasks_of};
 ghost use Rattle.rx_tasks.specs.Texts.{Goes, texts_of};
 ghost use Rattle.rx_tools.specs.Leaves.{is_leaf as stands_alone};
-ghost use Rattle.rx_tools.specs.Tasks.{body_text, body_weight, closer_text, suffix_text, task_text, task_weight};
+ghost use Rattle.rx_tools.specs.Tasks.{body_text, body_weight, closer_text, opening_text, suffix_text, task_text, task_weight};
 ghost use Rattle.rx_tools.specs.Utf8.{utf8};
 ghost use Rattle.rx_tools.specs.Writes.{writes};
 
 use crate::class_task::write_class;
 use crate::leaf::{Rest, write_leaf, write_leaves};
 use crate::quantifier::write_quantifier;
-use crate::task::{Body, Task, lone_body, task_of, whole_body};
+use crate::task::{Body, Task, lone_body, whole_body};
 use crate::term::{refers, write_capturing, write_ignoring};
 use crate::write::{write_char, write_str};
 use rx_ast::parts::look_text;
@@ -60,7 +60,7 @@ fn write_pattern<W: TextSink>(
     ensures { OnOk result (Appends (W.taken sink.old) (W.taken sink.new) (utf8 (spelling (bare pattern.now) mode))) }
 {
     let body = whole_body(mode, pattern.body.body.as_slice());
-    work_through(alloc, sink, task_of(body))
+    work_through(alloc, sink, Task::new(false, None, body))
 }
 
 impl<'a, W: TextSink> Work<W> for Task<'a> {
@@ -92,7 +92,7 @@ fn write_task<'a, W: TextSink>(
 {
     write_closer(sink, task.closes)?;
     write_suffix(sink, task.suffix)?;
-    write_body(alloc, sink, task.body)
+    write_body(alloc, sink, task.body())
 }
 
 #[inline(always)]
@@ -129,19 +129,16 @@ fn write_body<'a, W: TextSink>(
     ensures lighter { IfOk result (λ next. sum_by task_weight (tasks_of next) < body_weight body.entry) }
 {
     let left = write_leading(sink, body)?;
-    let Some((first, terms)) = left.rest.terms.split_first() else {
+    let Some((first, terms)) = left.terms.split_first() else {
         return Ok(Next::Nothing);
     };
-    let rest = Rest {
+    write_opening(alloc, sink, left.mode, left.after_reference, first)?;
+    let after = Body {
         after_reference: refers(first),
         terms,
+        ..left
     };
-    let after = Body {
-        mode: left.mode,
-        rest,
-        more: left.more,
-    };
-    open(alloc, sink, left.rest.after_reference, first, after)
+    Ok(tasks_after(left.after_reference, first, after))
 }
 
 /// Writes terms and alternatives before the first term in which something nests, and answers what is left.
@@ -149,16 +146,20 @@ fn write_body<'a, W: TextSink>(
 fn write_leading<'a, W: TextSink>(sink: &mut W, body: Body<'a>) -> Result<Body<'a>, Failed>
     ensures text { IfOk result (λ left. Goes (writes W.taken) sink.old sink.new (body_text body.entry) (body_text left)) }
     ensures lighter { IfOk result (λ left. body_weight left ≤ body_weight body.entry) }
-    ensures ends { IfOk result (λ left. length left.rest.terms.now ≡ 0 → length left.more.now ≡ 0) }
+    ensures ends { IfOk result (λ left. length left.terms.now ≡ 0 → length left.more.now ≡ 0) }
 {
     let mut left = body;
     loop {
-        let rest = write_leaves(sink, left.mode, left.rest)?;
+        let alternative = Rest {
+            after_reference: left.after_reference,
+            terms: left.terms,
+        };
+        let rest = write_leaves(sink, left.mode, alternative)?;
         if !rest.terms.is_empty() || left.more.is_empty() {
             return Ok(Body {
-                mode: left.mode,
-                rest,
-                more: left.more,
+                after_reference: rest.after_reference,
+                terms: rest.terms,
+                ..left
             });
         }
         write_char(sink, '|')?;
@@ -166,60 +167,67 @@ fn write_leading<'a, W: TextSink>(sink: &mut W, body: Body<'a>) -> Result<Body<'
     }
 }
 
-/// Writes a term in which nothing nests, or what another begins with. What ends it stands before what is after it.
-#[tactic(auto, using(rx_ast::proofs::Equations::mirrors, rx_ast::proofs::Sizes::sizes))]
-fn open<'a, W: TextSink>(
+/// Writes a term in which nothing nests.
+fn write_alone<W: TextSink>(
+    sink: &mut W,
+    mode: Mode,
+    after_reference: bool,
+    term: &Term,
+) -> Result<(), Failed>
+    requires { stands_alone (mirror_term term.now) ≡ true }
+    ensures { OnOk result (writes W.taken sink.old (opening_text mode after_reference (mirror_term term.now)) sink.new) }
+{
+    write_leaf(sink, mode, after_reference, term)
+}
+
+/// Writes a term in which nothing nests, or what another begins with.
+#[tactic(auto, using(rx_ast::proofs::Equations::mirrors))]
+fn write_opening<W: TextSink>(
     alloc: Global,
     sink: &mut W,
+    mode: Mode,
     after_reference: bool,
-    term: &'a Term,
-    after: Body<'a>,
-) -> Result<Next<Task<'a>>, Failed>
-    ensures text { IfOk result (λ next. Goes (writes W.taken) sink.old sink.new (node_text after.entry.mode after_reference (mirror_term term.now) ++ body_text after.entry) (texts_of task_text next)) }
-    ensures lighter { IfOk result (λ next. sum_by task_weight (tasks_of next) < 2 * term_size term.now + body_weight after.entry) }
+    term: &Term,
+) -> Result<(), Failed>
+    ensures { OnOk result (writes W.taken sink.old (opening_text mode after_reference (mirror_term term.now)) sink.new) }
 {
     match term {
-        Term::Quantifier(it) => Ok(before_suffix(after_reference, it, after)),
-        Term::LookAroundAssertion(it) => {
-            write_str(sink, look_text(it.kind))?;
-            Ok(before_closer(&it.body, after))
-        }
-        Term::CapturingGroup(it) => {
-            write_capturing(sink, &it.name)?;
-            Ok(before_closer(&it.body, after))
-        }
-        Term::IgnoreGroup(it) => {
-            write_ignoring(sink, &it.modifiers)?;
-            Ok(before_closer(&it.body, after))
-        }
-        Term::CharacterClass(it) => {
-            write_class(alloc, sink, after.mode, it)?;
-            Ok(Next::One(task_of(after)))
-        }
-        Term::BoundaryAssertion(_) => write_alone(sink, after_reference, term, after),
-        Term::Character(_) => write_alone(sink, after_reference, term, after),
-        Term::Dot(_) => write_alone(sink, after_reference, term, after),
-        Term::CharacterClassEscape(_) => write_alone(sink, after_reference, term, after),
-        Term::UnicodePropertyEscape(_) => write_alone(sink, after_reference, term, after),
-        Term::IndexedReference(_) => write_alone(sink, after_reference, term, after),
-        Term::NamedReference(_) => write_alone(sink, after_reference, term, after),
+        Term::Quantifier(_) => Ok(()),
+        Term::LookAroundAssertion(it) => write_str(sink, look_text(it.kind)),
+        Term::CapturingGroup(it) => write_capturing(sink, &it.name),
+        Term::IgnoreGroup(it) => write_ignoring(sink, &it.modifiers),
+        Term::CharacterClass(it) => write_class(alloc, sink, mode, it),
+        Term::BoundaryAssertion(_) => write_alone(sink, mode, after_reference, term),
+        Term::Character(_) => write_alone(sink, mode, after_reference, term),
+        Term::Dot(_) => write_alone(sink, mode, after_reference, term),
+        Term::CharacterClassEscape(_) => write_alone(sink, mode, after_reference, term),
+        Term::UnicodePropertyEscape(_) => write_alone(sink, mode, after_reference, term),
+        Term::IndexedReference(_) => write_alone(sink, mode, after_reference, term),
+        Term::NamedReference(_) => write_alone(sink, mode, after_reference, term),
     }
 }
 
-/// Writes a term in which nothing nests.
-#[tactic(auto, using(rx_ast::proofs::Sizes::sizes))]
-fn write_alone<'a, W: TextSink>(
-    sink: &mut W,
-    after_reference: bool,
-    term: &'a Term,
-    after: Body<'a>,
-) -> Result<Next<Task<'a>>, Failed>
-    requires { stands_alone (mirror_term term.now) ≡ true }
-    ensures text { IfOk result (λ next. Goes (writes W.taken) sink.old sink.new (node_text after.entry.mode after_reference (mirror_term term.now) ++ body_text after.entry) (texts_of task_text next)) }
-    ensures lighter { IfOk result (λ next. sum_by task_weight (tasks_of next) < 2 * term_size term.now + body_weight after.entry) }
+/// The tasks that are left where what a term begins with was written: what nests in it, what ends it, and what is after it.
+#[inline(always)]
+#[tactic(auto, using(rx_ast::proofs::Equations::mirrors, rx_ast::proofs::Sizes::sizes))]
+fn tasks_after<'a>(after_reference: bool, term: &'a Term, after: Body<'a>) -> Next<Task<'a>>
+    ensures text { node_text after.entry.mode after_reference (mirror_term term.now) ++ body_text after.entry ≡ opening_text after.entry.mode after_reference (mirror_term term.now) ++ texts_of task_text result }
+    ensures lighter { sum_by task_weight (tasks_of result) < 2 * term_size term.now + body_weight after.entry }
 {
-    write_leaf(sink, after.mode, after_reference, term)?;
-    Ok(Next::One(task_of(after)))
+    match term {
+        Term::Quantifier(it) => before_suffix(after_reference, it, after),
+        Term::LookAroundAssertion(it) => before_closer(&it.body, after),
+        Term::CapturingGroup(it) => before_closer(&it.body, after),
+        Term::IgnoreGroup(it) => before_closer(&it.body, after),
+        Term::BoundaryAssertion(_) => Next::One(Task::new(false, None, after)),
+        Term::Character(_) => Next::One(Task::new(false, None, after)),
+        Term::Dot(_) => Next::One(Task::new(false, None, after)),
+        Term::CharacterClassEscape(_) => Next::One(Task::new(false, None, after)),
+        Term::CharacterClass(_) => Next::One(Task::new(false, None, after)),
+        Term::UnicodePropertyEscape(_) => Next::One(Task::new(false, None, after)),
+        Term::IndexedReference(_) => Next::One(Task::new(false, None, after)),
+        Term::NamedReference(_) => Next::One(Task::new(false, None, after)),
+    }
 }
 
 /// What a quantifier stands after, and then the quantifier with what is after it.
@@ -229,12 +237,10 @@ fn before_suffix<'a>(after_reference: bool, it: &'a Quantifier, after: Body<'a>)
     ensures lighter { sum_by task_weight (tasks_of result) ≡ 1 + 2 * term_size it.now.body + body_weight after.entry }
 {
     let inner = lone_body(after.mode, after_reference, &it.body);
-    let end = Task {
-        closes: false,
-        suffix: Some(it),
-        body: after,
-    };
-    Next::Two(task_of(inner), end)
+    Next::Two(
+        Task::new(false, None, inner),
+        Task::new(false, Some(it), after),
+    )
 }
 
 /// What a group holds, and then its end with what is after it.
@@ -245,10 +251,5 @@ fn before_closer<'a>(body: &'a Disjunction, after: Body<'a>) -> Next<Task<'a>>
     ensures lighter { sum_by task_weight (tasks_of result) ≤ 1 + 2 * disjunction_size body.now + body_weight after.entry }
 {
     let inner = whole_body(after.mode, body.body.as_slice());
-    let end = Task {
-        closes: true,
-        suffix: None,
-        body: after,
-    };
-    Next::Two(task_of(inner), end)
+    Next::Two(Task::new(false, None, inner), Task::new(true, None, after))
 }

@@ -1,16 +1,29 @@
-ghost use Rattle.std.specs.Prelude.{◌≡◌, ◌+◌, ◌*◌, ◌-◌, ◌≤◌, length};
+ghost use Rattle.std.specs.Prelude.{◌≡◌, ◌++◌, ◌+◌, ◌*◌, ◌-◌, ◌≤◌, length};
 ghost use Rattle.rx_ast.specs.Size.{all_alternatives_size, term_size};
 ghost use Rattle.rx_ast.specs.Tree.{mirror_term};
 ghost use Rattle.rx_display.specs.Tasks.{tree_of};
 ghost use Rattle.rx_model.specs.Spelling.Spelling.{alternatives_text, node_text};
-ghost use Rattle.rx_tools.specs.Tasks.{body_text, body_weight, task_text, task_weight};
+ghost use Rattle.rx_tools.specs.Tasks.{body_of, body_text, body_weight, closer_text, suffix_text, task_text, task_weight};
 
-use crate::leaf::Rest;
 use rx_ast::{Alternative, Quantifier, Term};
 use rx_model::Mode;
 use std::slice;
 
-/// What is still to be written of a pattern: what ends a term, and what is after the term.
+/// What is left of a disjunction: terms, and alternatives after them, each after a bar.
+#[derive(Clone, Copy)]
+pub struct Body<'a> {
+    pub mode: Mode,
+
+    /// Whether an unquantified indexed reference stands right before the terms.
+    pub after_reference: bool,
+
+    pub terms: &'a [Term],
+    pub more: &'a [Alternative],
+}
+
+/// What is still to be written of a pattern: what ends a term, and the body after the term.
+// The fields stand in this order so that they take more than 64 bytes: a smaller struct, as one in a struct, is moved with the bytes
+// between its fields.
 #[derive(Clone, Copy)]
 pub struct Task<'a> {
     /// Whether the term is a group that is to be closed.
@@ -18,27 +31,41 @@ pub struct Task<'a> {
 
     /// The quantifier of the term.
     pub suffix: Option<&'a Quantifier>,
-    pub body: Body<'a>,
-}
 
-/// What is left of a disjunction: terms, and alternatives after them, each after a bar.
-#[derive(Clone, Copy)]
-pub struct Body<'a> {
     pub mode: Mode,
-    pub rest: Rest<'a>,
+    pub terms: &'a [Term],
+    pub after_reference: bool,
     pub more: &'a [Alternative],
 }
 
-/// The task to write what is left of a disjunction.
-#[inline(always)]
-pub fn task_of<'a>(body: Body<'a>) -> Task<'a>
-    ensures text { task_text result ≡ body_text body.entry }
-    ensures weight { task_weight result ≡ body_weight body.entry }
-{
-    Task {
-        closes: false,
-        suffix: None,
-        body,
+impl<'a> Task<'a> {
+    /// The task to write what ends a term, and the body after it.
+    #[inline(always)]
+    pub fn new(closes: bool, suffix: Option<&'a Quantifier>, body: Body<'a>) -> Task<'a>
+        ensures text { task_text result ≡ (closer_text closes ++ suffix_text suffix.entry) ++ body_text body.entry }
+        ensures weight { task_weight result ≡ body_weight body.entry }
+    {
+        Task {
+            closes,
+            suffix,
+            mode: body.mode,
+            terms: body.terms,
+            after_reference: body.after_reference,
+            more: body.more,
+        }
+    }
+
+    /// What is left of a disjunction after the term.
+    #[inline(always)]
+    pub fn body(self) -> Body<'a>
+        ensures { result ≡ body_of self.entry }
+    {
+        Body {
+            mode: self.mode,
+            after_reference: self.after_reference,
+            terms: self.terms,
+            more: self.more,
+        }
     }
 }
 
@@ -51,20 +78,19 @@ pub fn whole_body<'a>(mode: Mode, alternatives: &'a [Alternative]) -> Body<'a>
 {
     let after_reference = false;
     let Some((first, more)) = alternatives.split_first() else {
-        let terms: &[Term] = &[];
-        let rest = Rest {
+        return Body {
+            mode,
             after_reference,
-            terms,
+            terms: &[],
+            more: &[],
         };
-        let more: &[Alternative] = &[];
-        return Body { mode, rest, more };
     };
-    let terms = first.body.as_slice();
-    let rest = Rest {
+    Body {
+        mode,
         after_reference,
-        terms,
-    };
-    Body { mode, rest, more }
+        terms: first.body.as_slice(),
+        more,
+    }
 }
 
 /// A term alone.
@@ -73,11 +99,10 @@ pub fn lone_body<'a>(mode: Mode, after_reference: bool, term: &'a Term) -> Body<
     ensures text { body_text result ≡ node_text mode after_reference (mirror_term term.now) }
     ensures weight { body_weight result ≡ 1 + 2 * term_size term.now }
 {
-    let terms = slice::from_ref(term);
-    let rest = Rest {
+    Body {
+        mode,
         after_reference,
-        terms,
-    };
-    let more: &[Alternative] = &[];
-    Body { mode, rest, more }
+        terms: slice::from_ref(term),
+        more: &[],
+    }
 }

@@ -1,6 +1,6 @@
-use Rattle.std.proofs.Common.{refl}
-use Rattle.rx_tasks.proofs.Texts.{goes_past}
+use Rattle.rx_ast.specs.Tree.{mirror_term}
+use Rattle.rx_tools.proofs.Tasks.{opening_of_leaf}
 use Rattle.rx_tools.proofs.printing.write_alone.Goals as goal
 
-pub returns-clause-text : goal.returns-clause-text
-returns-clause-text g c = goes_past _ refl c.task_of.ensures.text c.in_ok-write_leaf.ensures.whole
+pub returns : goal.returns
+returns g c = rw (opening_of_leaf c.args.mode c.args.after_reference (mirror_term c.args.term.now) c.requires) c.write_leaf.ensures.whole

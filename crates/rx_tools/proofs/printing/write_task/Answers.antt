@@ -10,4 +10,4 @@ returns-clause-text g c =
     let closer = closer_text c.args.task.closes in
     let suffix = suffix_text c.args.task.suffix in
     let written = both.joined _ _ _ closer suffix c.in_ok-write_closer.ensures.whole c.in_ok-write_suffix.ensures.whole in
-    goes_last c.write_body.result task_text _ both (record { front = closer ++ suffix; cut = refl; written = written }) c.write_body.ensures.text
+    goes_last c.write_body.result task_text _ both (record { front = closer ++ suffix; cut = refl; written = written }) (rw c.body.ensures at c.write_body.ensures.text)

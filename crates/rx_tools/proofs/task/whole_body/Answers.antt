@@ -11,13 +11,13 @@ use Rattle.rx_tools.proofs.task.whole_body.Goals as goal
 
 pub returns-clause-text : goal.returns-clause-text
 returns-clause-text c =
-    ap (λ ts. nodes_text c.args.mode false (nodes (map mirror_term ts)) ++ barred_text c.args.mode (tree_of c.in-Some.more.now)) c.as_slice-terms.ensures
+    ap (λ ts. nodes_text c.args.mode false (nodes (map mirror_term ts)) ++ barred_text c.args.mode (tree_of c.in-Some.more.now)) c.as_slice.ensures
     ∙ sym (disjunction_cut c.args.mode c.args.alternatives.now c.in-Some.first.now c.in-Some.more.now c.in-Some.ensures.cases.0)
 
 pub returns-clause-weight : goal.returns-clause-weight
 returns-clause-weight c =
     let sized = ap all_alternatives_size c.in-Some.ensures.cases.0 ∙ alternatives_first c.in-Some.first.now c.in-Some.more.now in
-    let same = ap terms_size c.as_slice-terms.ensures in
+    let same = ap terms_size c.as_slice.ensures in
     omega arith
 
 pub returns-clause-shorter : goal.returns-clause-shorter
