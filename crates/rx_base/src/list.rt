@@ -121,6 +121,7 @@ impl<T: Drop> List<T> {
     }
 
     /// Takes memory for this many more items at once, unless there is enough already.
+    #[inline]
     pub fn reserve(&mut self, additional: usize) -> Result<(), OutOfMemory>
         ensures { self.new ≡ self.old }
     {
@@ -129,7 +130,7 @@ impl<T: Drop> List<T> {
     }
 
     /// Adds an item at the end. After an error the list is as it was.
-    #[inline]
+    #[inline(always)]
     pub fn push(&mut self, item: T) -> Result<(), OutOfMemory>
         ensures ok { OnOk result (self.new ≡ self.old ++ item ∷ []) }
         ensures err { OnErr result (self.new ≡ self.old) }

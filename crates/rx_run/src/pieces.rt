@@ -1,4 +1,5 @@
 ghost use Rattle.std.specs.Prelude.{◌≡◌, ◌∷◌, ◌++◌, IsTrue, MatchOption};
+ghost use Rattle.memchr.specs.Find.{IsFirstByte, is_byte};
 ghost use Rattle.rx_base.specs.Ascii as ascii;
 ghost use Rattle.rx_run.specs.Lines.{lacks};
 
@@ -20,6 +21,19 @@ pub fn split_at_tab(text: &str) -> Option<(&str, &str)>
         (IsTrue (lacks ascii.tab text.now))
         (λ p. (text.now ≡ p.0.now ++ ascii.tab ∷ p.1.now) × IsTrue (lacks ascii.tab p.0.now)) }
 {
-    let at = memchr(b'\t', text.as_bytes())?;
+    let at = tab_place(text.as_bytes())?;
     Some((&text[..at], &text[at + 1..]))
+}
+
+/// Where the first TAB stands. It stands near, so no wide look is taken.
+#[inline(always)]
+fn tab_place(bytes: &[u8]) -> Option<usize>
+    ensures { IsFirstByte (is_byte ascii.tab) bytes.now result }
+{
+    for (place, byte) in bytes.iter().enumerate() {
+        if *byte == b'\t' {
+            return Some(place);
+        }
+    }
+    None
 }

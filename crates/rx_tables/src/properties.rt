@@ -12,7 +12,9 @@ fn is_among(words: &[&str], text: &str) -> bool
     requires { IsTrue (list_all (λ w. list_all (λ b. nat_lt b 128) w.now) words.now) }
     ensures { IsTrue result ↔ Contains (map (λ w. w.now) words.now) (chars text.now) }
 {
-    words.iter().any(|word| *word == text)
+    words
+        .iter()
+        .any(|word| (*word).len() == text.len() && *word == text)
 }
 
 #[tactic(auto, unfolding(crate::specs::Properties::general_category_names))]
