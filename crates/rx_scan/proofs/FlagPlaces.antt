@@ -1,5 +1,5 @@
 -- Why flags are refused at a place.
-use Rattle.std.proofs.Common.{◌≡◌, refl, ap, sym, ◌∙◌, subst, ℕ, suc, ◌+◌, ◌-◌, ◌<◌, arith, add-one, Bool, true, false, not, ◌&&◌, List, [], ◌∷◌, ◌++◌, length, get_or, take, drop, append_assoc}
+use Rattle.std.proofs.Common.{◌≡◌, refl, ap, sym, ◌∙◌, subst, ℕ, suc, ◌+◌, ◌-◌, ◌<◌, arith, add-one, Bool, true, false, not, ◌&&◌, List, [], ◌∷◌, ◌++◌, length, get_or, take, drop}
 use Rattle.std.proofs.Math.Seq.{take-suc, drop-cons}
 use Rattle.std.proofs.lemmas.List.{length-take-le, map-append, take-append-drop}
 use Rattle.rx_base.specs.Flags.{holds, is_flag}
@@ -11,7 +11,7 @@ use Rattle.rx_units.specs.Units.{values, offset_at}
 use Rattle.rx_units.proofs.Offsets.{end_of_take}
 use Rattle.rx_model.specs.Inputs.Flags.{flags_ok}
 use Rattle.rx_model.specs.Refusals.FlagCauses.{IsFirstOffence, IsFlagCause, unit_span, unknown, duplicated, both_modes}
-use Rattle.rx_scan.proofs.FlagRows.{flags_push, refused_append}
+use Rattle.rx_scan.proofs.FlagRows.{flags_push}
 
 not_flag : (a h b : Bool) → a ≡ false → ((a && not h) && b) ≡ false
 not_flag a h b e = rw e refl
@@ -78,15 +78,3 @@ module _ (us : List CodePoint) (place : ℕ) (d : CodePoint) (within : place < l
       ap flags_ok values_next ∙ flags_push (values (take place us)) (get_or us place d).value passed
       ∙ well (is_flag (get_or us place d).value) (holds (values (take place us)) (get_or us place d).value)
       (holds (values (take place us) ++ ((get_or us place d).value ∷ [])) 117) (holds (values (take place us) ++ ((get_or us place d).value ∷ [])) 118) flag new (ap (λ vs. holds vs 117 && holds vs 118) (sym values_next) ∙ one_mode)
-
-offence_refuses : (us before : List CodePoint) (unit : CodePoint) → IsFirstOffence us before unit → flags_ok (values us) ≡ false
-offence_refuses us before unit offence =
-    ap (λ vs. flags_ok (values vs)) offence.cut
-    ∙ ap flags_ok (map-append (λ u. u.value) before (unit ∷ offence.after) ∙ sym (append_assoc (values before) (unit.value ∷ []) (values offence.after)))
-    ∙ refused_append (values before ++ (unit.value ∷ [])) (values offence.after) offence.offends
-
--- flags that have a cause are refused
-pub flag_cause_refuses : (us : List CodePoint) (first added : ℕ) (cause : Diagnostic) → IsFlagCause us first added cause → flags_ok (values us) ≡ false
-flag_cause_refuses us first added _ (unknown before unit offence no_flag) = offence_refuses us before unit offence
-flag_cause_refuses us first added _ (duplicated before unit offence flag seen) = offence_refuses us before unit offence
-flag_cause_refuses us first added _ (both_modes before unit offence flag new) = offence_refuses us before unit offence

@@ -1,6 +1,6 @@
 -- Flags, one by one.
-use Rattle.std.proofs.Common.{◌≡◌, refl, ap, sym, ◌∙◌, ℕ, arith, Bool, true, false, not, ◌==◌, ◌&&◌, ◌||◌, List, [], ◌∷◌, ◌++◌, append_assoc, append-nil}
-use Rattle.std.proofs.lemmas.Bool.{and_parts, false≢true}
+use Rattle.std.proofs.Common.{◌≡◌, refl, ap, ◌∙◌, ℕ, arith, Bool, true, false, not, ◌==◌, ◌&&◌, ◌||◌, List, [], ◌∷◌, ◌++◌}
+use Rattle.std.proofs.lemmas.Bool.{and_parts}
 use Rattle.std.proofs.lemmas.Bool.Decides.{nat_tests}
 use Rattle.std.proofs.lemmas.List.Folds.{list_any-append}
 use Rattle.std.specs.List.{list_any}
@@ -51,23 +51,6 @@ pub flags_push : (vs : List ℕ) (f : ℕ) → flags_ok vs ≡ true →
 flags_push vs f passed =
     let distinct = (and_parts (are_distinct_flags vs) (not (holds vs 117 && holds vs 118)) passed).0 in
     rw (distinct_push vs f, distinct) refl
-
-stay_refused : (d x p q e g : Bool) → (d && not (p && q)) ≡ false → ((d && x) && not ((p || e) && (q || g))) ≡ false
-stay_refused false x p q e g refused = refl
-stay_refused true true true true e g refused = refl
-stay_refused true false true true e g refused = refl
-stay_refused true x true false e g refused = absurd (false≢true (sym refused))
-stay_refused true x false q e g refused = absurd (false≢true (sym refused))
-
-refused_push : (vs : List ℕ) (f : ℕ) → flags_ok vs ≡ false → flags_ok (vs ++ (f ∷ [])) ≡ false
-refused_push vs f refused =
-    rw (distinct_push vs f, holds_push vs f 117, holds_push vs f 118)
-    (stay_refused (are_distinct_flags vs) (is_flag f && not (holds vs f)) (holds vs 117) (holds vs 118) (f == 117) (f == 118) refused)
-
--- what is refused stays so, whatever follows
-pub refused_append : (vs ws : List ℕ) → flags_ok vs ≡ false → flags_ok (vs ++ ws) ≡ false
-refused_append vs [] refused = simp append-nil refused
-refused_append vs (w ∷ ws) refused = rw (← append_assoc vs (w ∷ []) ws) (refused_append (vs ++ (w ∷ [])) ws (refused_push vs w refused))
 
 by_tests : (v u : Bool) (modes : Bool × Bool) → modes ≡ (is_unicode (if v then Sets else (if u then Unicode else Legacy)), is_sets (if v then Sets else (if u then Unicode else Legacy))) → modes ≡ (v || u, v)
 by_tests true u modes e = e

@@ -1,10 +1,10 @@
 -- One more mark of the first pass.
-use Rattle.std.proofs.Common.{◌≡◌, refl, ap, ap₂, sym, ◌∙◌, subst, ℕ, zero, suc, ◌+◌, ◌-◌, ◌<◌, ◌≤◌, Bool, true, false, cond, not, ◌&&◌, ◌||◌, ◌==◌, Option, Some, None, List, [], ◌∷◌, ◌++◌, append_assoc, append-nil, drop, get_or, length, length-drop, subst₂, arith, ◌⊎◌, inl, inr, map}
+use Rattle.std.proofs.Common.{◌≡◌, refl, ap, ap₂, sym, ◌∙◌, subst, ℕ, zero, suc, ◌+◌, ◌<◌, ◌≤◌, Bool, true, false, cond, not, ◌&&◌, ◌||◌, Option, Some, None, List, [], ◌∷◌, ◌++◌, append_assoc, append-nil, drop, drop-drop, get_or, get_or-drop, length, arith, ◌⊎◌, inl, inr, map}
 use Rattle.std.specs.Prelude.{nat_le, nat_lt, option_map}
-use Rattle.std.specs.List.{prefix_len}
 use Rattle.std.specs.BTreeMap.{get_by_text}
 use Rattle.std.specs.Str.{IsUtf8, bytes_eq, chars}
 use Rattle.std.proofs.lemmas.Bool.{cases_lt, false≢true, ltb-true, lt-ltb, leb-true, le-leb, not-true, cases_Bool, or_cases}
+use Rattle.std.proofs.lemmas.Bool.Decides.{nat_tests}
 use Rattle.std.proofs.lemmas.List.Folds.{list_any-append}
 use Rattle.std.proofs.Math.Seq.{drop-length}
 use Rattle.std.proofs.Math.Bool.{or-true}
@@ -14,7 +14,7 @@ use Rattle.rx_units.specs.Units.{values}
 use Rattle.rx_units.proofs.Choices.{Some-inj, both}
 use Rattle.rx_model.specs.declared.mode.Mode.{Mode}
 use Rattle.rx_model.specs.FirstPass.GroupStates.{GroupState, Hides, Nests, group_states, step}
-use Rattle.rx_model.specs.FirstPass.Marks.{Mark, Clash, IsFirstClash, IsParted, other, bar, closer, quiet, capturing, count, listed, mark_at, mark_count, mark_front, mark_name, marks, marks_following, name_length, name_places, names, mark_place, places, places_following, seen}
+use Rattle.rx_model.specs.FirstPass.Marks.{Mark, Clash, IsFirstClash, IsParted, other, bar, closer, quiet, capturing, count, listed, mark_at, mark_count, mark_front, mark_name, marks, marks_following, name_length, name_places, names, mark_place, places, places_following}
 use Rattle.rx_model.specs.Trees.Names.{once_after}
 use Rattle.rx_model.proofs.FirstPass.PartedMarks.{hidden_parted, parted_hidden, last_seen, nests}
 use Rattle.rx_scan.specs.MarkReading.{is_plain}
@@ -25,7 +25,7 @@ use Rattle.rx_scan.specs.declared.first_pass.FirstPass.{FirstPass}
 use Rattle.rx_scan.specs.declared.first_pass.PassFault.{PassFault}
 use Rattle.rx_scan.specs.declared.first_pass.PassFault.TheVariants.{OutOfMemory, Duplicated}
 use Rattle.rx_scan.specs.declared.last_openings.LastOpenings.{LastOpenings}
-use Rattle.rx_scan.proofs.MarkSteps.{values_drop}
+use Rattle.rx_scan.proofs.MarkSteps.{values_at, values_drop, values_length}
 use Rattle.rx_scan.proofs.KnownNames.{same_name_Decides, same_text}
 
 after_drop : (mode : Mode) (n : ℕ) (us : List ℕ) → marks_following mode n us ≡ marks mode (drop n us)
@@ -37,15 +37,6 @@ places_drop : (mode : Mode) (at n : ℕ) (us : List ℕ) → places_following mo
 places_drop mode at zero us = ap (λ k. places_following mode k 0 us) (omega arith)
 places_drop mode at (suc n) [] = refl
 places_drop mode at (suc n) (u ∷ us) = let e : (at + 1) + n ≡ at + suc n = omega arith in places_drop mode (at + 1) n us ∙ ap (λ k. places_following mode k 0 (drop n us)) e
-
-drop_none : (n : ℕ) → drop n (let e : List ℕ = [] in e) ≡ []
-drop_none zero = refl
-drop_none (suc n) = refl
-
-drop_more : (k n : ℕ) (us : List ℕ) → drop n (drop k us) ≡ drop (k + n) us
-drop_more zero n us = let e : n ≡ 0 + n = omega arith in ap (λ j. drop j us) e
-drop_more (suc k) n [] = drop_none n ∙ sym (drop_none (suc k + n))
-drop_more (suc k) n (u ∷ us) = let e : suc (k + n) ≡ suc k + n = omega arith in drop_more k n us ∙ ap (λ j. drop j (u ∷ us)) e
 
 -- the mark that stands at a place, and what follows it
 record Turn (mode : Mode) (us : List ℕ) (at : ℕ) (m : Mark) (taken : ℕ) : Type 0 where
@@ -61,16 +52,14 @@ turn_at mode us at u more x d e =
     let et : x.1 ≡ n = ap (λ q. q.1) e in
     let s : suc n ≡ taken = omega arith in
     let t : at + 1 + n ≡ at + taken = omega arith in
-    let f : drop n more ≡ drop (at + taken) us = ap (drop (suc n)) (sym d) ∙ drop_more at (suc n) us ∙ ap (λ j. drop (at + j) us) s in
+    let f : drop n more ≡ drop (at + taken) us = ap (drop (suc n)) (sym d) ∙ drop-drop (suc n) at us ∙ ap (λ j. drop (at + j) us) s in
     record {
       marks_are = ap (marks mode) d ∙ ap (λ z. (mark_front mode u more).0 ∷ z) (after_drop mode n more ∙ ap (marks mode) f) ∙ ap (λ z. z ∷ marks mode (drop (at + taken) us)) (sym em);
       places_are = ap (places_following mode at 0) d ∙ ap (λ z. at ∷ z) (places_drop mode (at + 1) n more ∙ ap (λ j. places_following mode j 0 (drop n more)) t ∙ ap (places_following mode (at + taken) 0) f);
     }
 
 drop_next : {A : Type 0} (xs : List A) (k : ℕ) (y : A) (ys : List A) → drop k xs ≡ y ∷ ys → drop (k + 1) xs ≡ ys
-drop_next xs zero y ys e = ap (drop 1) e
-drop_next [] (suc k) y ys e = cc
-drop_next (x ∷ xs) (suc k) y ys e = let s : suc k + 1 ≡ suc (k + 1) = omega arith in ap (λ j. drop j (x ∷ xs)) s ∙ drop_next xs k y ys e
+drop_next xs k y ys e = sym (drop-drop 1 k xs) ∙ ap (drop 1) e
 
 mark_here : (xs : List Mark) (k : ℕ) (y : Mark) (ys : List Mark) → drop k xs ≡ y ∷ ys → mark_at xs k ≡ y
 mark_here [] zero y ys e = cc
@@ -79,13 +68,7 @@ mark_here (x ∷ xs) zero y ys e = cc
 mark_here (x ∷ xs) (suc k) y ys e = mark_here xs k y ys e
 
 place_here : (xs : List ℕ) (k : ℕ) (y : ℕ) (ys : List ℕ) → drop k xs ≡ y ∷ ys → get_or xs k 0 ≡ y
-place_here [] zero y ys e = cc
-place_here [] (suc k) y ys e = cc
-place_here (x ∷ xs) zero y ys e = cc
-place_here (x ∷ xs) (suc k) y ys e = place_here xs k y ys e
-
-same_is : (xs ys : List ℕ) → are_same xs ys ≡ true → xs ≡ ys
-same_is xs ys e = (same_name_Decides xs ys).0 e
+place_here xs k y ys e = let k_is : k ≡ k + 0 = omega arith in ap (λ j. get_or xs j 0) k_is ∙ sym (get_or-drop k xs 0 0) ∙ ap (λ zs. get_or zs 0 0) e
 
 same_self : (xs : List ℕ) → are_same xs xs ≡ true
 same_self xs = (same_name_Decides xs xs).1 refl
@@ -173,7 +156,7 @@ found_last mode us fs n k e (Some v) m all h =
       | inl t ↦
           let same : x ≡ e = Some-inj (sym (ap (λ b. cond b (Some x) None) t) ∙ h) in
           let b = both (are_same v n) (not (hides k fs)) t in
-          let q : v ≡ n = same_is v n b.0 in
+          let q : v ≡ n = (same_name_Decides v n).0 b.0 in
           subst (Found mode us fs n (suc k)) same
           (record { before = omega arith; is = m ∙ ap Some q; seen_there = not-true (hides k fs) b.1; places_are = refl; first = all })
       | inr f ↦ let g : None ≡ Some e = sym (ap (λ b. cond b (Some x) None) f) ∙ h in cc
@@ -309,44 +292,15 @@ unmoved s at k knows = record {
   fresh = λ n e. cc;
 }
 
-none_of : {A : Type 0} (a b c d e : Bool) (v w x y z o : A) → not (a || b || c || d || e) ≡ true → cond a v (cond b w (cond c x (cond d y (cond e z o)))) ≡ o
-none_of true b c d e v w x y z o h = absurd (false≢true h)
-none_of false true c d e v w x y z o h = absurd (false≢true h)
-none_of false false true d e v w x y z o h = absurd (false≢true h)
-none_of false false false true e v w x y z o h = absurd (false≢true h)
-none_of false false false false true v w x y z o h = absurd (false≢true h)
-none_of false false false false false v w x y z o h = refl
-
 plain_front : (mode : Mode) (u : ℕ) (us : List ℕ) → is_plain u ≡ true → mark_front mode u us ≡ (other, 0)
 unfolding mark_front
-plain_front mode u us h = none_of (u == 92) (u == 91) (u == 40) (u == 41) (u == 124) _ _ _ _ _ (other, 0) h
+plain_front mode u us h = grind (arith, nat_tests)
 
 -- over a unit that opens and closes nothing
-passed : (mode : Mode) (duplicate_names : Bool) (us : List ℕ) (at k u : ℕ) (more : List ℕ) (s : FirstPass) → drop at us ≡ u ∷ more → is_plain u ≡ true → IsAt mode duplicate_names us at k s → IsAt mode duplicate_names us (at + 1) (k + 1) s
-passed mode duplicate_names us at k u more s d plain w =
-    let left : length us - at ≡ suc (length more) = sym (length-drop at us) ∙ ap length d in
-    advanced mode duplicate_names us at k u more (other, 0) s s d (sym (plain_front mode u more plain)) (omega (arith, left)) (unmoved s at k w.knows) w
-
-plain_run : (mode : Mode) (duplicate_names : Bool) (us : List ℕ) (ws : List CodePoint) (at k : ℕ) (s : FirstPass) → drop at us ≡ values ws → IsAt mode duplicate_names us at k s
-    → IsAt mode duplicate_names us (at + prefix_len (λ unit. is_plain unit.value) ws) (k + prefix_len (λ unit. is_plain unit.value) ws) s
-plain_run mode duplicate_names us [] at k s d w = subst₂ (λ a b. IsAt mode duplicate_names us a b s) (omega arith) (omega arith) w
-plain_run mode duplicate_names us (u ∷ ws) at k s d w = elim (cases_Bool (is_plain u.value)) [
-  | inl t ↦
-      let n = prefix_len (λ (unit : CodePoint). is_plain unit.value) ws in
-      let all : prefix_len (λ (unit : CodePoint). is_plain unit.value) (u ∷ ws) ≡ 1 + n = ap (λ b. cond b (1 + n) 0) t in
-      subst₂ (λ a b. IsAt mode duplicate_names us a b s) (omega (arith, all)) (omega (arith, all))
-      (plain_run mode duplicate_names us ws (at + 1) (k + 1) s (drop_next us at u.value (values ws) d) (passed mode duplicate_names us at k u.value (values ws) s d t w))
-  | inr f ↦
-      let n = prefix_len (λ (unit : CodePoint). is_plain unit.value) ws in
-      let none : prefix_len (λ (unit : CodePoint). is_plain unit.value) (u ∷ ws) ≡ 0 = ap (λ b. cond b (1 + n) 0) f in
-      subst₂ (λ a b. IsAt mode duplicate_names us a b s) (omega (arith, none)) (omega (arith, none)) w
-]
-
--- over all units that stand next and do so
-pub passed_over : (mode : Mode) (duplicate_names : Bool) (us ws : List CodePoint) (at k n : ℕ) (s : FirstPass) → ws ≡ drop at us → n ≡ prefix_len (λ unit. is_plain unit.value) ws → IsAt mode duplicate_names (values us) at k s
-    → IsAt mode duplicate_names (values us) (at + n) (k + n) s
-passed_over mode duplicate_names us ws at k n s left is w =
-    subst (λ m. IsAt mode duplicate_names (values us) (at + m) (k + m) s) (sym is) (plain_run mode duplicate_names (values us) ws at k s (sym (values_drop at us) ∙ ap values (sym left)) w)
+pub passed : {mode : Mode} {duplicate_names : Bool} (us : List CodePoint) (at : ℕ) {k : ℕ} {s : FirstPass} (d : CodePoint) → at < length us → is_plain (get_or us at d).value ≡ true → IsAt mode duplicate_names (values us) at k s → IsAt mode duplicate_names (values us) (at + 1) (k + 1) s
+passed {mode} {duplicate_names} us at {k} {s} d inside plain w =
+    let more = values (drop (at + 1) us) in
+    advanced mode duplicate_names (values us) at k _ more (other, 0) s s (sym (values_drop at us) ∙ values_at us at d inside) (sym (plain_front mode _ more plain)) (omega (arith, values_length us)) (unmoved s at k w.knows) w
 
 places_at : (mode : Mode) (us : List ℕ) (at k : ℕ) (m : Mark) → mark_place mode us k ≡ at → mark_at (marks mode us) k ≡ m → (at + 3, at + 3 + name_length m) ≡ name_places mode us k
 places_at mode us at k m pl here = ap (λ z. (z + 3, z + 3 + name_length m)) (sym pl) ∙ ap (λ z. (mark_place mode us k + 3, mark_place mode us k + 3 + name_length z)) (sym here)
@@ -405,12 +359,6 @@ all_clean mode duplicate_names us at k s le w a b c = elim (cases_lt b k) [
       let m = nothing_at (marks mode us) k d b l in let q : None ≡ Some c.name = sym (ap (mark_name mode) m) ∙ c.second in cc
 ]
 
--- at the end all groups are counted and all names are listed
-pub all_found : (mode : Mode) (duplicate_names : Bool) (us : List ℕ) (at k : ℕ) (s : FirstPass) → length us ≤ at → IsAt mode duplicate_names us at k s → (s.count ≡ count (marks mode us)) × (s.names ≡ seen mode (marks mode us))
-all_found mode duplicate_names us at k s le w =
-    let none : marks mode (drop at us) ≡ [] = ap (marks mode) (at_end mode duplicate_names us at k s le w) in
-    (omega (arith, ap count none, w.counted), ap (λ ms. with_names s.names (names mode ms)) (sym none) ∙ w.named_by)
-
 last_or_none : (x y : Option Entry) → last_or x y ≡ None → (x ≡ None) × (y ≡ None)
 last_or_none None y e = (refl, e)
 last_or_none (Some x) y e = cc
@@ -450,7 +398,7 @@ entry_last n k from to None e h = cc
 entry_last n k from to (Some v) e h =
     let x : Entry = record { index = k; name = v; from = from; to = to } in
     elim (cases_Bool (are_same v n)) [
-      | inl t ↦ let q : x ≡ e = Some-inj (sym (ap (λ b. cond b (Some x) None) t) ∙ h) in (sym (ap (λ z. z.index) q), ap Some (same_is v n t))
+      | inl t ↦ let q : x ≡ e = Some-inj (sym (ap (λ b. cond b (Some x) None) t) ∙ h) in (sym (ap (λ z. z.index) q), ap Some ((same_name_Decides v n).0 t))
       | inr f ↦ let g : None ≡ Some e = sym (ap (λ b. cond b (Some x) None) f) ∙ h in cc
     ]
 

@@ -10,7 +10,7 @@ ghost use Rattle.rx_scan.specs.OpenGroups.{group_states_of, hides, states_that_p
 ghost use Rattle.rx_scan.specs.FirstPass.{Captures, ClashesWith, IsPassFault, IsStart, KnowsLast, LastTells, Refuses, Steps, entries, entry_of, first_clash, parts_of, span_of, with_name};
 
 use crate::last_openings::LastOpenings;
-use crate::mark::{Mark, plain_front, read_mark};
+use crate::mark::{Mark, is_plain, read_mark};
 use crate::open_groups::OpenGroups;
 use crate::{Names, capturing_group_name};
 use rx_base::{Counter, List, OutOfMemory, Text};
@@ -85,19 +85,21 @@ impl FirstPass {
     {
         let mut pass = FirstPass::new(alloc, mode, duplicate_names);
         let mut place = 0usize;
-        let mut index = 0usize;
+        // How many units before the place begin no mark. Each of the others begins one.
+        let mut inner = 0usize;
         loop {
-            let plain = plain_front(tail(units, place), steps);
-            place += plain;
-            index += plain;
+            while place < units.len() && is_plain(units[place].value) {
+                steps.tick();
+                place += 1;
+            }
             let [unit, following @ ..] = tail(units, place) else {
                 return Ok(pass);
             };
             steps.tick();
             let (mark, more) = read_mark(unit.value, following, mode, steps);
-            pass.step(alloc, mark, place, index)?;
+            pass.step(alloc, mark, place, place - inner)?;
             place += more + 1;
-            index += 1;
+            inner += more;
         }
     }
 

@@ -1,5 +1,4 @@
 ghost use Rattle.std.specs.Prelude.{◌≡◌, ◌≤◌, ◌<◌, ◌+◌, false, length, option_map, IfSome, MatchOption};
-ghost use Rattle.std.specs.List.{prefix_len};
 ghost use Rattle.rx_units.specs.Units.{values};
 ghost use Rattle.rx_model.specs.Inputs.Environment.{is_sets};
 ghost use Rattle.rx_model.specs.FirstPass.Marks.{after_angle, class_rest, escape_rest, mark_front, name_length, open_front, question_front, specifier_front, starts};
@@ -22,22 +21,6 @@ pub enum Mark<'a> {
     Capturing(Option<&'a [CodePoint]>),
 }
 
-/// How many units stand before the first that is not plain. Each of these is a step.
-#[inline(always)]
-pub fn plain_front<C: Counter>(units: &[CodePoint], steps: &mut C) -> usize
-    ensures value { result ≡ prefix_len (λ unit. is_plain unit.value) units.now }
-    ensures within { result ≤ length units.now }
-    ensures steps { C.count steps.new ≡ C.count steps.old + result }
-{
-    for (place, unit) in units.iter().enumerate() {
-        if !is_plain(unit.value) {
-            return place;
-        }
-        steps.tick();
-    }
-    units.len()
-}
-
 /// Whether a unit is a mark of its own that opens and closes nothing, whatever stands after it.
 #[inline(always)]
 pub fn is_plain(unit: u32) -> bool
@@ -58,16 +41,15 @@ static BEGINS_MARK: [u8; 128] = [
     0, 0, 0, 0, 0, 0, 0, 0, 0, 0, 0, 0, 1, 0, 0, 0, //
 ];
 
-/// The mark (CountLeftCapturingParensWithin, 22.2.1.2) that begins with a unit that is not plain, and how many of the units after it are
-/// the mark's. Each of these is a step.
-#[tactic(auto, using(crate::proofs::MarkSteps::bar_front), unfolding(rx_model::specs::FirstPass::Marks::mark_front))]
+/// The mark (CountLeftCapturingParensWithin, 22.2.1.2) that begins with a unit, and how many of the units after it are the mark's. Each of
+/// these is a step.
+#[tactic(auto, unfolding(rx_model::specs::FirstPass::Marks::mark_front))]
 pub fn read_mark<'a, C: Counter>(
     unit: u32,
     following: &'a [CodePoint],
     mode: Mode,
     steps: &mut C,
 ) -> (Mark<'a>, usize)
-    requires { is_plain unit ≡ false }
     ensures value { seen_front result ≡ mark_front mode unit (values following.now) }
     ensures within { result.1 ≤ length following.now }
     ensures name { name_length (seen_mark result.0) ≤ result.1 }
@@ -81,8 +63,10 @@ pub fn read_mark<'a, C: Counter>(
         after_parenthesis(following, steps)
     } else if unit == ')' as u32 {
         (Mark::Closer, 0)
-    } else {
+    } else if unit == '|' as u32 {
         (Mark::Bar, 0)
+    } else {
+        (Mark::Other, 0)
     }
 }
 
@@ -124,10 +108,10 @@ fn flat_class_rest<C: Counter>(units: &[CodePoint], steps: &mut C) -> usize
     while let [unit, more @ ..] = left {
         steps.tick();
         left = more;
-        if unit.value == ']' as u32 {
-            return units.len() - left.len();
-        }
-        if unit.value == '\\' as u32 {
+        if unit.value == '\\' as u32 || unit.value == ']' as u32 {
+            if unit.value == ']' as u32 {
+                return units.len() - left.len();
+            }
             left = &more[escape_rest(more, steps)..];
         }
     }
@@ -140,19 +124,18 @@ fn nested_class_rest<C: Counter>(units: &[CodePoint], steps: &mut C) -> usize
     ensures within { result ≤ length units.now }
     ensures steps { C.count steps.new ≡ C.count steps.old + result }
 {
-    let mut escaped = false;
     let mut open = 0usize;
-    for (place, unit) in units.iter().enumerate() {
+    let mut left = units;
+    while let [unit, more @ ..] = left {
         steps.tick();
-        if escaped {
-            escaped = false;
-        } else if unit.value == '\\' as u32 {
-            escaped = true;
+        left = more;
+        if unit.value == '\\' as u32 {
+            left = &more[escape_rest(more, steps)..];
         } else if unit.value == '[' as u32 {
             open += 1;
         } else if unit.value == ']' as u32 {
             if open == 0 {
-                return place + 1;
+                return units.len() - left.len();
             }
             open -= 1;
         }

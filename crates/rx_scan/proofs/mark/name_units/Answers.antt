@@ -1,5 +1,5 @@
-use Rattle.std.proofs.Common.{◌≡◌, length, subst, arith}
-use Rattle.rx_scan.proofs.MarkSteps.{Passed, passed_none, passed_more, closed_found, closed_none, no_eq}
+use Rattle.std.proofs.Common.{◌≡◌, length, subst, ne_eqb, arith}
+use Rattle.rx_scan.proofs.MarkSteps.{Passed, passed_none, passed_more, closed_found, closed_none}
 use Rattle.rx_scan.proofs.mark.name_units.Goals as goal
 
 pub loop-place-init : goal.loop-place-init
@@ -10,7 +10,7 @@ returns-then-unit-clause-value g c = closed_found c.args.units.now c.loop-place.
 
 pub loop-place-preserved : goal.loop-place-preserved
 loop-place-preserved g c = record {
-  passed = passed_more c.args.units.now c.loop-place.place _ c.loop-place-test.true (no_eq _ _ c.if-unit.false) c.loop-place.invariant.passed;
+  passed = passed_more c.args.units.now c.loop-place.place _ c.loop-place-test.true (ne_eqb _ _ c.if-unit.false) c.loop-place.invariant.passed;
   turns = omega arith;
 }
 

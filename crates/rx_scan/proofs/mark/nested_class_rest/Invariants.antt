@@ -1,11 +1,16 @@
-use Rattle.std.proofs.Common.{◌≤◌}
+use Rattle.std.proofs.Common.{◌≡◌, ◌+◌, ◌-◌, ◌≤◌, false, length}
+use Rattle.rx_units.specs.Units.{values}
 use Rattle.rx_model.specs.declared.mode.Mode.TheVariants.{Sets}
-use Rattle.rx_scan.proofs.MarkSteps.{HasStepped, IsInClass}
+use Rattle.rx_model.specs.FirstPass.Marks.{class_rest}
+use Rattle.rx_scan.proofs.MarkSteps.{HasStepped}
 use Rattle.rx_scan.proofs.mark.nested_class_rest.Given as goal
 
-abbrev pub invariant-loop-place : goal.invariant-loop-place
-invariant-loop-place g l = record {
-  few : l.open ≤ l.place;
-  inside : IsInClass Sets l.units l.place l.escaped l.open;
-  turns : HasStepped (g.C.Counter.count l.fn.steps) (g.C.Counter.count l.steps) l.place;
+abbrev pub invariant-loop-left : goal.invariant-loop-left
+invariant-loop-left g l = record {
+  inside : class_rest Sets false 0 (values l.units) ≡ length l.units - length l.left + class_rest Sets false l.open (values l.left);
+  within : length l.left + l.open ≤ length l.units;
+  turns : HasStepped (g.C.Counter.count l.fn.steps) (g.C.Counter.count l.steps) (length l.units - length l.left);
 }
+
+abbrev pub decreases-loop-left : goal.decreases-loop-left
+decreases-loop-left g l = length l.left
