@@ -81,9 +81,9 @@ pub use Rattle.rx_units.specs.Pace.{IsPaced, TakesSteps, units_left}
 pub use Rattle.rx_units.specs.Units.{offset_at, values}
 pub use Rattle.rx_units.specs.declared.code_point.CodePoint.{CodePoint}
 pub use Rattle.std.proofs.Math.Bool.{and-false, and-true, or-false}
-pub use Rattle.std.proofs.lemmas.Bool.{cases_Bool, cond-false, cond-true, cond_both, eqb-true, false_from_ne_true, le-leb, not-true, true≢false}
+pub use Rattle.std.proofs.lemmas.Bool.{and_right, cases_Bool, cond-false, cond-true, cond_both, eqb-true, false_from_ne_true, le-leb, not-true, true≢false}
 pub use Rattle.std.proofs.lemmas.Bool.Decides.{nat_tests}
-pub use Rattle.std.proofs.lemmas.List.{drop-drop, length-map, map-append}
+pub use Rattle.std.proofs.lemmas.List.{drop-drop, length-map, map-append, same_from_push}
 pub use Rattle.std.proofs.lemmas.List.Elements.{All-head, All-nil, All-push, All-tail, All-weaker}
 pub use Rattle.std.proofs.lemmas.Result.{IfOk-weaker, on_ok_weaker}
 pub use Rattle.std.specs.List.{flat_map, list_all, prefix_len}

@@ -1,5 +1,5 @@
 -- A reader that moves keeps what it reads, and a failure is handed on.
-use Rattle.std.proofs.Common.{◌≡◌, sym, ap, ap₂, ◌∙◌, subst, ℕ, ◌+◌, ◌<◌, ◌≤◌, List, ◌++◌, length, drop, min, Result, Ok, Err, IsErrAnd, arith, append_assoc, length-append, length-drop}
+use Rattle.std.proofs.Common.{◌≡◌, sym, ap, ap₂, ◌∙◌, subst, ℕ, ◌+◌, ◌<◌, ◌≤◌, List, ◌++◌, length, drop, min, Result, Ok, Err, IsErrAnd, OnOk, arith, append_assoc, length-append, length-drop}
 use Rattle.rx_class.proofs.Common.{drop-drop, CodePoint, Cursor, move_on, rest, KeepsUnits}
 use Rattle.std.proofs.Math.Seq.{drop-append_seam}
 use Rattle.std.proofs.lemmas.List.{drop_min}
@@ -8,6 +8,11 @@ use Rattle.std.proofs.lemmas.List.{drop_min}
 pub handed : {A F : Type 0} (P : Result A F → Type 0) {r : Result A F} {f : F} → IsErrAnd r (λ g. g ≡ f) → P (Err f) → P r
 handed P {r = Ok it} h p = absurd h
 handed P {r = Err g} h p = subst (λ g. P (Err g)) (sym h) p
+
+-- what a call ensures where it ends well, put together
+pub on_ok_three : {A F P Q R S : Type 0} (r : Result A F) → (P → Q → R → S) → OnOk r P → OnOk r Q → OnOk r R → OnOk r S
+on_ok_three (Ok it) f p q r = f p q r
+on_ok_three (Err e) f p q r = tt
 
 pub moved_keeps : (n : ℕ) (old new : Cursor) → new ≡ move_on n old → KeepsUnits old new
 moved_keeps n old new is =

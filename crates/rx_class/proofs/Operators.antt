@@ -1,9 +1,9 @@
 -- The operators of a class with `v`: what is held before and after one, where it leads, and what may be spelled there.
-use Rattle.std.proofs.Common.{◌≡◌, refl, ◌<◌, false, true, None, Some, List, length, arith, ap, ℕ, not, ◌⊎◌}
+use Rattle.std.proofs.Common.{◌≡◌, refl, ◌<◌, false, true, None, Some, List, length, arith, ap, ℕ, not, ◌⊎◌, IsSome}
 use Rattle.rx_class.proofs.Common.{SetOperator, Intersection, Subtraction, CodePoint, values, Mode, is_union, is_whole, operand, operator_of, with_range, joined, pending, with_operator, Atom}
 use Rattle.rx_class.proofs.Common.{ClassToken, item, operator, operator_text, starts, Environment, is_sets, begins_item, last_operator, place_of}
 use Rattle.rx_model.specs.Classes.ClassRows.{Place, SpellsInClass, SpellsOperand, fresh, may_follow_operator, next_place, after_operator}
-use Rattle.rx_model.specs.Classes.ClassRuns.{Held, single}
+use Rattle.rx_model.specs.Classes.ClassRuns.{Held, several, single}
 use Rattle.rx_model.specs.Classes.ClassTokens.{is_character}
 
 -- An item may begin at the place that a bracket is at.
@@ -15,6 +15,18 @@ whole_end held whole = grind arith
 
 pub whole_fresh : (held : Held) → is_whole held ≡ true → place_of held ≡ fresh
 whole_fresh held whole = grind arith
+
+-- A union is whole, and takes an operand or a range more.
+pub union_whole : (held : Held) → is_union held ≡ true → is_whole held ≡ true
+union_whole held union = grind arith
+
+pub union_operand : (held : Held) → is_union held ≡ true → IsSome (operand held)
+union_operand (pending o) union = absurd (let no : ⊥ = cc union in no)
+union_operand (joined o) union = absurd (let no : ⊥ = cc union in no)
+union_operand held union = refl
+
+pub union_range : (held : Held) → is_union held ≡ true → with_range held ≡ Some several
+union_range held union = grind arith
 
 -- after an operand
 pub operand_fresh : (held after : Held) → operand held ≡ Some after → place_of after ≡ fresh

@@ -3,6 +3,7 @@
 pub(crate) mod builder;
 pub(crate) mod character;
 pub(crate) mod class;
+pub(crate) mod common;
 pub(crate) mod front;
 pub(crate) mod held;
 pub(crate) mod open_bracket;

@@ -2,8 +2,8 @@
 use Rattle.std.proofs.Common.{◌≡◌, refl, sym, ap, ap₂, ◌∙◌, subst, ℕ, ◌+◌, ◌-◌, ◌<◌, ◌==◌, Bool, true, false, Ok, Err, Some, is_some, List, [], ◌∷◌, ◌++◌, length, if◌then◌else◌, arith, append-nil, append_assoc, length-append}
 use Rattle.rx_class.proofs.Common.{and-false, and-true, Diagnostic, UnterminatedPattern, Fault, Span, CharacterClass, CharacterClassContents, Members, no_member, mirror_class, CodePoint}
 use Rattle.rx_class.proofs.Common.{Cursor, front, move_on, offset_of, rest, values, Mode, IsInBracket, IsItemPlace, of_class, bracket_of, empty, bracket, closer, leave, token}
-use Rattle.rx_class.proofs.Common.{members_events, more_members_events, Environment, is_sets, mode_by, starts, span_between, class_environment, token_some, union_tokens, class_row_tokens}
-use Rattle.rx_class.proofs.Common.{State, ClassItem, environment_of, span_to, BeginsNoClass, GivesClass, HoldsFirstPass, GivesItem, IsItem, IsOfText, contents, item_members, KeepsUnits, offset_in}
+use Rattle.rx_class.proofs.Common.{members_events, more_members_events, Environment, is_sets, starts, span_between, class_environment, token_some, union_tokens, class_row_tokens}
+use Rattle.rx_class.proofs.Common.{ClassItem, span_to, BeginsNoClass, GivesClass, GivesItem, IsItem, IsOfText, contents, item_members, KeepsUnits, offset_in}
 use Rattle.rx_base.specs.declared.diagnostic.kinds.Unterminated.TheVariants as what
 use Rattle.rx_base.specs.declared.fault.Fault.TheVariants as fault
 use Rattle.rx_ast.specs.declared.class.CharacterClassContentsKind.TheVariants.{Union}
@@ -12,7 +12,6 @@ use Rattle.rx_units.specs.Cursor.{begins}
 use Rattle.rx_model.specs.Refusals.ClassCauses.{IsClassCause, NothingFollows, unterminated_class}
 use Rattle.rx_model.specs.Classes.ClassRows.{ClassRow, ClassTokenRow, Place, SpellsInClass, fresh, outside}
 use Rattle.rx_model.specs.Classes.ClassRuns.{Held}
-use Rattle.rx_model.specs.Inputs.Environment.{environment_with, has_some}
 use Rattle.rx_model.proofs.Classes.ClassBeyond.{no_class}
 use Rattle.rx_model.proofs.Classes.ClassFaults.{stuck}
 use Rattle.rx_model.proofs.Classes.ClassStates.{opened_union}
@@ -65,10 +64,6 @@ module _ (e : Environment) (added : ℕ) (old : Cursor) where
   begins_class mid new false h m n is =
       let a = passes_one 91 old mid h m in
       rw is (opened mid false (a.0 ∷ []) a.2 (ap (λ x. x ∷ []) a.1, sym (begins_is 94 (rest mid)) ∙ sym n))
-
--- What a state says of the environment is what the whole text says.
-pub environment_is : (state : State) (r : Cursor) → HoldsFirstPass state r.units → IsOfText (environment_of state) r
-environment_is state r pass = ap₂ (λ groups names. environment_with (mode_by state.unicode_mode state.unicode_sets_mode) true groups (has_some names)) pass.groups pass.names
 
 -- the end of the text
 pub nothing_stands : (us : List CodePoint) → is_some (front us) ≡ false → us ≡ []

@@ -1,8 +1,8 @@
 -- Characters and ends of ranges in a class with `v`: what is spelled is read, what is read is spelled, and what is answered.
-use Rattle.std.proofs.Common.{◌≡◌, ◌≢◌, refl, sym, ap, ◌∙◌, subst, ℕ, ◌+◌, ◌≤◌, ◌==◌, true, false, not, All, Ok, Err, List, [], ◌∷◌, ◌++◌, length, arith, inl, inr, length-append}
+use Rattle.std.proofs.Common.{◌≡◌, ◌≢◌, refl, sym, ap, ◌∙◌, subst, ℕ, ◌+◌, ◌≤◌, ◌==◌, true, false, not, All, Ok, Err, List, [], ◌∷◌, ◌++◌, length, drop, arith, inl, inr, length-append}
 use Rattle.rx_class.proofs.Common.{eqb-true, cond-true, cond-false, cond_both, false_from_ne_true, nat_tests, length-map, map-append, All-head, Diagnostic, InvalidUnicodeEscapeSequence}
 use Rattle.rx_class.proofs.Common.{TooLargeNumberDigits, Hex, Span, Character, CharacterKind, CodePoint, Cursor, move_on, offset_of, rest, values, chosen, Unicode, Sets, character}
-use Rattle.rx_class.proofs.Common.{Environment, is_sets, is_unicode, IsEscapeCause, invalid_escape, too_many_hex_digits, span_between, any_there, atom_some, sets_is, escape_first, differs}
+use Rattle.rx_class.proofs.Common.{Environment, is_sets, is_unicode, IsEscapeCause, invalid_escape, too_many_hex_digits, span_between, any_there, atom_some, sets_is, escape_first, differs, starts}
 use Rattle.rx_class.proofs.Common.{SetCharacter, span_to, KeepsUnits, GivesSetCharacter, seen_character}
 use Rattle.rx_tables.specs.Characters.{is_reserved_punctuator}
 use Rattle.rx_ast.specs.declared.leaf.CharacterKind.TheVariants as kinds
@@ -161,6 +161,10 @@ module _ (e : Environment) (sets : is_sets e.mode ≡ true) where
       let p = s.2 in
       omega (arith, p.count_is, length-append p.digits (p.next ∷ p.rest), ap length p.whole, ap length s.1, length-map us (λ (u : CodePoint). u.value))
 
+-- The units of a character are there.
+pub set_character_within : {k : CharacterKind} {v n : ℕ} (us : List CodePoint) → set_character_at us ≡ escaped k v n → n ≤ length us
+set_character_within {k} {v} {n} us h = let f = set_character_spelled with_v refl k v n us h in omega (arith, f.count, ap length f.whole, length-append f.w f.rest)
+
 -- What is read of a character is what is answered.
 module _ (added : ℕ) (old new : Cursor) where
   pub character_gives : (k : CharacterKind) (v n start : ℕ) (span : Span) → set_character_at (rest old) ≡ escaped k v n → All (λ unit. unit.value ≤ 0x10FFFF) (rest old) → start ≡ offset_of old → new ≡ move_on n old → span ≡ span_to added start new
@@ -218,3 +222,12 @@ range_end_is us it h = by us (seen_character it) (is_seen it) h
 -- Where none is, nothing is read after a `-`.
 pub no_range_end : (us : List CodePoint) (hyphen : CodePoint) (more : List CodePoint) → range_end_at us ≡ nothing → us ≡ hyphen ∷ more → hyphen.value ≡ 45 → set_character_at more ≡ nothing
 no_range_end us hyphen more none whole is = sym (cond-true (hyphen.value == 45) _ _ (ap (λ c. c == 45) is)) ∙ ap range_end_at (sym whole) ∙ none
+
+-- The end of a range is what is read after a `-`, and there is none where no `-` stands.
+pub range_end_after : (us : List CodePoint) {read : EscapeRead} → starts 45 (values us) ≡ true → set_character_at (drop 1 us) ≡ read → range_end_at us ≡ read
+range_end_after [] h is = absurd (let no : ⊥ = cc h in no)
+range_end_after (u ∷ us) h is = cond-true (u.value == 45) _ _ h ∙ is
+
+pub no_end_without : (us : List CodePoint) → starts 45 (values us) ≡ false → range_end_at us ≡ nothing
+no_end_without [] h = refl
+no_end_without (u ∷ us) h = cond-false (u.value == 45) _ _ h

@@ -1,6 +1,6 @@
 -- A class with `v`, from its bracket to its end: what its turns add up to, and what is answered.
 use Rattle.std.proofs.Common.{◌≡◌, refl, sym, ap, ◌∙◌, subst, ℕ, ◌+◌, ◌-◌, ◌<◌, Bool, true, Ok, Err, Some, List, [], ◌∷◌, ◌++◌, length, min, arith, append_assoc, if◌then◌else◌}
-use Rattle.rx_class.proofs.Common.{Fault, CharacterClass, no_member, mirror_class, CodePoint, Cursor, move_on, offset_of, rest, values, empty, IsFitting, IsFlagged, bracket, class_events}
+use Rattle.rx_class.proofs.Common.{same_from_push, Fault, CharacterClass, no_member, mirror_class, CodePoint, Cursor, move_on, offset_of, rest, values, empty, IsFitting, IsFlagged, bracket, class_events}
 use Rattle.rx_class.proofs.Common.{class_tokens_of, closer, enter, item, leave, token, IsEarlyClass, starts, Environment, IsFirstInClass, ClassBuilder, BeginsNoClass, GivesClass}
 use Rattle.rx_class.proofs.Common.{builder_events, KeepsUnits, AddsToSets, GivesTurn, IsInSets, IsOfSets, adds, innermost_held, offset_in, place_of, IsWellBuilt}
 use Rattle.rx_units.specs.Cursor.{begins}
@@ -13,7 +13,6 @@ use Rattle.rx_class.proofs.Keeping.{Passes, keeps_on, passes_keeps, passes_moved
 use Rattle.rx_class.proofs.Operators.{whole_fresh}
 use Rattle.rx_class.proofs.SetReading.Places.{row_units}
 use Rattle.rx_class.proofs.SetReading.Refusals.{unit_next}
-use Rattle.rx_class.proofs.SetReading.Steps.{last_same}
 
 -- A reader that moves in a text stays in it.
 pub kept_sets : {e : Environment} {from r : Cursor} → IsOfSets e from → KeepsUnits from r → IsOfSets e r
@@ -26,7 +25,7 @@ begins_sets e added old mid new negative start b stands moves says is at events 
   keeps = passes_keeps h.passes;
   row = rw (events, held) (at, (h.w, h.v ++ rest new, h.passes.whole ∙ append_assoc h.w h.v (rest new), h.opens, h.items.row));
   well = well;
-  ends = λ union before a tokens character. absurd (let no : ⊥ = cc (last_same before [] (item a) (bracket negative) (sym tokens ∙ ap class_tokens_of events)) in no);
+  ends = λ union before a tokens character. absurd (let no : ⊥ = cc (same_from_push before [] (item a) (bracket negative) (sym tokens ∙ ap class_tokens_of events)).1 in no);
 }
   where
     h : IsInClass e added old new negative no_member

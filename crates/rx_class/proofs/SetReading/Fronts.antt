@@ -1,9 +1,9 @@
 -- What stands next in a class with `v`: what is read is what stands there, no other token is spelled, and where it is no character no escape is refused.
-use Rattle.std.proofs.Common.{◌≡◌, ◌≢◌, refl, sym, ap, ap₂, ◌∙◌, subst, ℕ, ◌==◌, ◌&&◌, Bool, true, false, Option, Some, None, List, [], ◌∷◌, ◌++◌, inl, inr}
+use Rattle.std.proofs.Common.{◌≡◌, ◌≢◌, refl, sym, ap, ap₂, ◌∙◌, subst, ℕ, ◌==◌, ◌&&◌, Bool, true, false, Option, Some, None, List, [], ◌∷◌, ◌++◌, inl, inr, ◌≤◌, length, drop, arith}
 use Rattle.rx_class.proofs.Common.{cond_both, cond-false, cond-true, eqb-true, false_from_ne_true, true≢false, Intersection, Subtraction, CharacterClassEscapeKind, CharacterKind}
-use Rattle.rx_class.proofs.Common.{class_escape_text, CodePoint, values, front_is, both, Sets, ClassToken, character, property, bracket, closer, item, low, strings, operator, starts}
+use Rattle.rx_class.proofs.Common.{class_escape_text, CodePoint, front, values, front_is, both, Sets, ClassToken, character, property, bracket, closer, item, low, strings, operator, starts}
 use Rattle.rx_class.proofs.Common.{Environment, is_sets, begins_property, begins_item, class_found, escape_first, differs, split_values, starts_there, class_escape_front}
-use Rattle.std.proofs.lemmas.Bool.{and_left}
+use Rattle.std.proofs.lemmas.Bool.{and_left, eq-eqb}
 use Rattle.rx_ast.specs.declared.leaf.CharacterClassEscapeKind.TheVariants as classes
 use Rattle.rx_model.specs.Characters.EscapeFronts.{EscapeRead, nothing, escape_at}
 use Rattle.rx_model.specs.Classes.ClassFronts.{are_next}
@@ -112,6 +112,19 @@ stands (u ∷ us) =
   where
     P : FrontRead → Type 0
     P = StandsFront (u ∷ us)
+
+-- a unit at the front, and a bracket there
+pub starts_some : (c : ℕ) (us : List CodePoint) → starts c (values us) ≡ true → 1 ≤ length us
+starts_some c [] h = absurd (true≢false (sym h))
+starts_some c (u ∷ us) h = omega arith
+
+pub front_starts : (c : ℕ) (us : List CodePoint) → front us ≡ Some c → starts c (values us) ≡ true
+front_starts c [] h = absurd (let no : ⊥ = cc h in no)
+front_starts c (u ∷ us) h = eq-eqb u.value c (let is : u.value ≡ c = cc h in is)
+
+pub bracket_begins : (us : List CodePoint) (negative : Bool) → front us ≡ Some 91 → negative ≡ starts 94 (values (drop 1 us)) → BeginsBracket us negative
+bracket_begins [] negative h s = absurd (let no : ⊥ = cc h in no)
+bracket_begins (u ∷ us) negative h s = bracket_stands u us (let is : u.value ≡ 91 = cc h in is) negative (sym s)
 
 -- A token is read by the values of its units,
 read_by : (t : ClassToken) (w more : List CodePoint) (c : ℕ) (v : List ℕ) → values w ≡ c ∷ v → IsOfFront (front_by c (v ++ values more) (character_front (set_character_at (w ++ more)))) t → IsOfFront (set_front_at (w ++ more)) t

@@ -1,14 +1,14 @@
 -- An open bracket with one thing more in it, and the class that it is.
 use Rattle.std.proofs.Common.{◌≡◌, refl, ap, ap₂, sym, ◌∙◌, subst, ℕ, Bool, true, false, Some, List, [], ◌∷◌, ◌++◌, append-nil, append_assoc, ◌&&◌, map}
-use Rattle.rx_class.proofs.Common.{map-append, SetOperator, Intersection, Subtraction, CharacterClass, CharacterClassContents, Member, members, mirror_class, mirror_contents, kind_of}
-use Rattle.rx_class.proofs.Common.{Bracket, Brackets, after_step, bracket_of, class_run_from_start, class_run, is_whole, with_strings, with_operator, ClassEvents, enter, leave, token}
+use Rattle.rx_class.proofs.Common.{map-append, or-false, SetOperator, Intersection, Subtraction, CharacterClass, CharacterClassContents, Member, Members, members, mirror_class, mirror_contents, kind_of}
+use Rattle.rx_class.proofs.Common.{Bracket, Brackets, after_step, bracket_of, class_run_from_start, class_run, is_union, is_whole, with_strings, with_operator, ClassEvents, enter, leave, token}
 use Rattle.rx_class.proofs.Common.{bracket, closer, class_events, class_tokens_of, member_events, members_events, operator, member_strings, tokens_append, OpenBracket, bracket_at}
 use Rattle.rx_class.proofs.Common.{bracket_events, class_of, with_member, contents, mirror_held, AreHeld, AreSound, IsSound, IsWellHeld}
 use Rattle.std.specs.declared.boxed.Box.{Box}
 use Rattle.std.specs.declared.alloc.Global.{Global}
 use Rattle.rx_ast.specs.declared.class.CharacterClassContents.TheVariants.{NestedCharacterClass}
 use Rattle.rx_ast.specs.ClassTree as tree
-use Rattle.rx_ast.specs.ClassTree.{nested}
+use Rattle.rx_ast.specs.ClassTree.{member, nested}
 use Rattle.rx_ast.proofs.ClassEquations.{nested_is}
 use Rattle.rx_model.specs.Classes.ClassRuns as runs
 use Rattle.rx_model.specs.Classes.ClassRuns.{class_step, add_operator}
@@ -56,6 +56,17 @@ opens_on : (b : OpenBracket) (es more : ClassEvents) (cs : Brackets) → es ≡ 
 opens_on b es more cs is opens run =
     ap (λ es. class_run_from_start (class_tokens_of es)) is ∙ ap class_run_from_start (tokens_append (bracket_events b) more)
     ∙ class_opened-append (class_tokens_of (bracket_events b)) (class_tokens_of more) (bracket_at b ∷ []) opens ∙ run
+
+-- A union with a member more that matches no string may match strings as before.
+pub union_strings : (b : OpenBracket) → is_union (mirror_held b.held) ≡ true → IsWellHeld b → b.strings ≡ with_strings (mirror_held b.held) b.strings false
+union_strings b union well = by (mirror_held b.held) (contents b.body) union well.held well.strings
+  where
+    by : (held : runs.Held) (ms : Members) → is_union held ≡ true → AreHeld held ms → b.strings ≡ held_strings held ms → b.strings ≡ with_strings held b.strings false
+    by runs.empty (member m ms) union are h = absurd are
+    by runs.empty ms union are h = h
+    by runs.single ms union are h = sym (or-false b.strings)
+    by runs.several ms union are h = sym (or-false b.strings)
+    by held ms union are h = absurd (let no : ⊥ = cc union in no)
 
 abbrev after_bracket : OpenBracket → ClassEvents → ClassEvents
 after_bracket b es = enter b.start ∷ token (bracket b.negative) ∷ es

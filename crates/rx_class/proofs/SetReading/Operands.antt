@@ -1,7 +1,7 @@
 -- Operands of a class with `v` that are read: what they add to what was built, and how what is refused in them is refused in the class.
-use Rattle.std.proofs.Common.{◌≡◌, ◌≢◌, refl, sym, ap, ap₂, ◌∙◌, subst, ℕ, ◌+◌, ◌-◌, ◌<◌, ◌≤◌, ◌&&◌, Bool, true, false, not, is_some, Option, Some, None, Ok, Err, List, [], ◌∷◌, ◌++◌, length, drop, arith, inl, inr, append_assoc, length-append}
-use Rattle.rx_class.proofs.Common.{le-leb, true≢false, length-map, Diagnostic, Intersection, Fault, Span, Character, CharacterClassEscapeKind, UnicodePropertyEscape, CharacterClassRange}
-use Rattle.rx_class.proofs.Common.{ClassStringDisjunction, Member, CodePoint, Cursor, move_on, offset_of, rest, values, front_is, Mode, is_union, with_range, Atom, ClassEvents}
+use Rattle.std.proofs.Common.{◌≡◌, ◌≢◌, refl, sym, ap, ap₂, ◌∙◌, subst, ℕ, ◌+◌, ◌-◌, ◌<◌, ◌≤◌, Bool, true, false, not, is_some, Option, Some, None, Ok, Err, List, [], ◌∷◌, ◌++◌, length, drop, arith, inl, inr, append_assoc, length-append}
+use Rattle.rx_class.proofs.Common.{and_right, le-leb, true≢false, length-map, Diagnostic, Intersection, Fault, Span, Character, CharacterClassEscapeKind, UnicodePropertyEscape, CharacterClassRange}
+use Rattle.rx_class.proofs.Common.{ClassStringDisjunction, Member, CodePoint, Cursor, move_on, offset_of, rest, values, front_is, Mode, is_union, operand, with_range, Atom, ClassEvents}
 use Rattle.rx_class.proofs.Common.{ClassToken, item, leave, token, within, class_tokens_of, member_events, strings_events, strings, strings_end, low as low_end, starts, Environment, is_sets}
 use Rattle.rx_class.proofs.Common.{begins_property, IsOperandPlace, IsSecondPlace, begins_item, IsEscapeCause, IsPropertyCause, no_item, yielding_of, class_environment, class_escape_text}
 use Rattle.rx_class.proofs.Common.{atom_some, class_letter, token_some, sets_is, tokens_append, class_row_tokens, ClassAtom, ClassBuilder, builder_events, GivesAtom, atom_member, atom_of}
@@ -33,8 +33,8 @@ use Rattle.rx_class.specs.SetReading.Progress.{IsSetRange}
 use Rattle.rx_class.specs.SetReading.WellBuilt.{TakesOperand}
 use Rattle.rx_class.proofs.ClassReading.Ranges.{DashStands, PairStands, atom_stands, dash_at, dash_given, dash_whole, pair_given, range_is, atom_events}
 use Rattle.rx_class.proofs.Keeping.{Passes, keeps_on, moved_keeps, passes_keeps, passes_moved, passes_over}
-use Rattle.rx_class.proofs.SetReading.Characters.{no_escape_refused, no_range_end, spelled_set_character, unicode_is}
-use Rattle.rx_class.proofs.Operators.{begins_cases, begins_place, no_range_after, no_range_no_union, operand_after, operand_fresh, ranged_fresh}
+use Rattle.rx_class.proofs.SetReading.Characters.{no_end_without, no_escape_refused, no_range_end, spelled_set_character, unicode_is}
+use Rattle.rx_class.proofs.Operators.{begins_cases, begins_place, no_range_after, no_range_no_union, operand_after, operand_fresh, ranged_fresh, union_whole, whole_fresh}
 use Rattle.rx_class.proofs.SetReading.Places.{item_before, item_here}
 use Rattle.rx_class.proofs.SetReading.Refusals.{by_text, said_gives}
 use Rattle.rx_class.proofs.SetReading.Steps.{adds_by, last_no_character}
@@ -44,12 +44,8 @@ use Rattle.rx_model.proofs.Reading.Splits.{starts_front}
 
 -- With `v` an item leads to where the next may begin.
 after_fresh : (mode : Mode) (q : Place) (a : Atom) (left : List CodePoint) → begins_item q ≡ true → is_sets mode ≡ true → next_place mode q (item a) left ≡ fresh
-after_fresh mode q a left begins sets = ap (following_item q) (never (is_dashed (values left)) (has_threes mode) (ap has_threes (sets_is mode sets))) ∙ by q begins
+after_fresh mode q a left begins sets = ap (following_item q) (and_right (is_dashed (values left)) (has_threes mode) (ap has_threes (sets_is mode sets))) ∙ by q begins
   where
-    never : (a b : Bool) → b ≡ false → (a && b) ≡ false
-    never true b h = h
-    never false b h = refl
-
     by : (q : Place) → begins_item q ≡ true → following_item q false ≡ fresh
     by q begins = grind arith
 
@@ -268,6 +264,13 @@ module _ {e : Environment} {added : ℕ} {old new : Cursor} where
       no_end (inl none) = λ union. absurd (true≢false (sym union ∙ ap is_union with ∙ no_range_no_union (innermost_held before) (mirror_held held) takes.held none))
       no_end (inr none) = λ union xs a tokens is hyphen following whole hyphen_is us first_at added place d c.
           no_escape_refused e of.sets following (no_range_end (rest new) hyphen following none whole hyphen_is) us first_at added place d c
+
+  -- So is one in a union, where no `-` follows.
+  pub union_character_adds : {before after : ClassBuilder} {it : Character} → IsWellBuilt before → is_union (innermost_held before) ≡ true → operand (innermost_held before) ≡ Some (innermost_held after) → IsWellBuilt after → IsOfSets e old →
+      GivesSetCharacter e added old new (Ok it) → starts 45 (values (rest new)) ≡ false → builder_events after ≡ builder_events before ++ member_events (tree.character it) → AddsToSets e added old new before after
+  union_character_adds {before} {after} was union takes well of gives no_dash events =
+      character_adds {held = after.inner.held} record { well = was; held = takes } refl well of gives (inr (no_end_without (rest new) no_dash))
+      (λ at. absurd (let no : ⊥ = cc (sym (whole_fresh (innermost_held before) (union_whole (innermost_held before) union)) ∙ at) in no)) events
 
 -- a range
 module _ (mode : Mode) (added : ℕ) (old new : Cursor) (before : ClassBuilder) (after : Held) (ranges : with_range (innermost_held before) ≡ Some after) where

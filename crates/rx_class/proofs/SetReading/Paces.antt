@@ -1,5 +1,5 @@
 -- The pace of a reader in a class with `v`: how much is left where it moved, and how few steps were taken to look at what it moved over.
-use Rattle.std.proofs.Common.{◌≡◌, refl, sym, ap, ◌∙◌, subst, ℕ, ◌+◌, ◌-◌, ◌*◌, ◌≤◌, ◌==◌, true, All, Result, Ok, Err, List, [], ◌∷◌, get_or, length, drop, take, arith, length-append, length-drop, length-take}
+use Rattle.std.proofs.Common.{◌≡◌, refl, sym, ap, ◌∙◌, subst, ℕ, ◌+◌, ◌-◌, ◌*◌, ◌≤◌, ◌==◌, true, All, Result, Ok, Err, List, [], ◌∷◌, get_or, length, drop, take, arith, length-drop, length-take}
 use Rattle.rx_class.proofs.Common.{cond-true, cond_both, All-tail, CharacterKind, Rises, CodePoint, Cursor, move_on, rest, TakesSteps, units_left, values, character, Environment, atom_some}
 use Rattle.rx_class.proofs.Common.{ClassBuilder, SetCharacter, seen_character, AddsToSets, most_front_looks, most_set_looks}
 use Rattle.rx_model.specs.Characters.EscapeFronts.{EscapeRead, escaped, nothing, too_many}
@@ -8,7 +8,7 @@ use Rattle.rx_class.specs.SetReading.Fronts.{FrontRead, StandsFront, character_f
 use Rattle.rx_class.specs.SetReading.Steps.{TakesStepsAfter, most_after_backslash, most_end_looks, most_front_after}
 use Rattle.rx_class.proofs.Keeping.{passes_moved}
 use Rattle.rx_class.proofs.ReadingSteps.{moved_left}
-use Rattle.rx_class.proofs.SetReading.Characters.{range_end_is, set_character_spelled, set_too_many_within, with_v}
+use Rattle.rx_class.proofs.SetReading.Characters.{range_end_is, set_character_spelled, set_character_within, set_too_many_within, with_v}
 use Rattle.rx_class.proofs.SetReading.Fronts.{stands}
 
 pub adds_left : {e : Environment} {added : ℕ} {old new : Cursor} {before after : ClassBuilder} → AddsToSets e added old new before after → units_left new ≤ units_left old
@@ -22,8 +22,7 @@ looks_below [] read n h = omega arith
 looks_below (u ∷ us) read n h = cond_both (u.value == 92) _ _ (λ most. most ≤ n) (λ is. h (length us) (omega arith)) (λ other. omega arith)
 
 after_fits : (us : List CodePoint) (read : EscapeRead) → set_character_at us ≡ read → (units : ℕ) → units ≤ length us → most_after_backslash units read ≤ length us + 3
-after_fits us (escaped k v n) h units few =
-    let f = set_character_spelled with_v refl k v n us h in omega (arith, f.count, ap length f.whole, length-append f.w f.rest)
+after_fits us (escaped k v n) h units few = omega (arith, set_character_within us h)
 after_fits us (too_many n) h units few = omega (arith, set_too_many_within with_v refl us n h)
 after_fits us read h units few = omega arith
 
@@ -36,7 +35,7 @@ pub character_left : (old new : Cursor) {k : CharacterKind} {v n : ℕ} → set_
 character_left old new {k} {v} {n} h moves =
     let f = set_character_spelled with_v refl k v n (rest old) h in
     let positive = atom_some with_v (character k v) f.w f.rest f.spelled in
-    let left = moved_left n old new moves (omega (arith, f.count, ap length f.whole, length-append f.w f.rest)) in
+    let left = moved_left n old new moves (set_character_within (rest old) h) in
     let few : most_set_looks (rest old) (escaped k v n) ≤ n + 3 = looks_below (rest old) (escaped k v n) (n + 3) (λ units some. omega arith) in
     omega (arith, few, positive, f.count, left)
 

@@ -1,6 +1,6 @@
 -- What a turn of the reader of a class with `v` adds to what was built.
-use Rattle.std.proofs.Common.{◌≡◌, refl, sym, ap, ◌∙◌, subst, ℕ, ◌+◌, ◌<◌, Bool, true, false, Some, List, [], ◌∷◌, ◌++◌, length, arith, append_assoc, length-append}
-use Rattle.rx_class.proofs.Common.{length-map, SetOperator, CodePoint, Cursor, move_on, offset_of, rest, values, empty, is_whole, with_operator, Atom, ClassEvents, ClassToken, bracket}
+use Rattle.std.proofs.Common.{◌≡◌, refl, sym, ap, ◌∙◌, subst, ℕ, ◌+◌, ◌<◌, Bool, true, false, Some, List, [], ◌∷◌, ◌++◌, length, arith, append_assoc}
+use Rattle.rx_class.proofs.Common.{length-map, same_from_push, SetOperator, CodePoint, Cursor, move_on, offset_of, rest, values, empty, is_whole, with_operator, Atom, ClassEvents, ClassToken, bracket}
 use Rattle.rx_class.proofs.Common.{closer, enter, item, leave, token, class_tokens_of, operator, operator_text, Environment, is_sets, starts, begins_item, tokens_append, ClassBuilder}
 use Rattle.rx_class.proofs.Common.{builder_events, mirror_held, AddsToSets, IsInSets, IsOfSets, RefusesNoEnd, innermost_held, offset_in, place_of, IsWellBuilt}
 use Rattle.rx_model.specs.Classes.ClassRows.{ClassRow, Place, SpellsBracket, SpellsInClass, next_place, outside, fresh}
@@ -12,12 +12,6 @@ use Rattle.rx_class.proofs.ClassReading.Items.{rows_append}
 use Rattle.rx_class.proofs.Keeping.{keeps_on, passes_keeps, passes_moved}
 use Rattle.rx_class.proofs.Operators.{begins_cases, begins_place, operand_after, operator_leads, operator_no_item, operator_places, operator_spelled, some_operator, whole_fresh}
 
-pub last_same : {A : Type 0} (xs ys : List A) (x y : A) → xs ++ (x ∷ []) ≡ ys ++ (y ∷ []) → x ≡ y
-last_same [] [] x y h = cc h
-last_same [] (b ∷ ys) x y h = absurd (omega (arith, ap length h, length-append ys (y ∷ [])))
-last_same (a ∷ xs) [] x y h = absurd (omega (arith, ap length h, length-append xs (x ∷ [])))
-last_same (a ∷ xs) (b ∷ ys) x y h = last_same xs ys x y (let k : xs ++ (x ∷ []) ≡ ys ++ (y ∷ []) = cc h in k)
-
 -- After another token than a character no range is begun.
 pub last_no_character : (e : Environment) (r : Cursor) (before after : ClassBuilder) (more : ClassEvents) (ts : List ClassToken) (t : ClassToken) → builder_events after ≡ builder_events before ++ more →
     class_tokens_of more ≡ ts ++ (t ∷ []) → ((a : Atom) → t ≡ item a → is_character a ≡ true → ⊥) → RefusesNoEnd e r after
@@ -25,7 +19,7 @@ last_no_character e r before after more ts t events last other union xs a tokens
     let all : xs ++ (item a ∷ []) ≡ (class_tokens_of (builder_events before) ++ ts) ++ (t ∷ []) =
     sym tokens ∙ ap class_tokens_of events ∙ tokens_append (builder_events before) more ∙ ap (λ us. class_tokens_of (builder_events before) ++ us) last
     ∙ sym (append_assoc (class_tokens_of (builder_events before)) ts (t ∷ [])) in
-    absurd (other a (sym (last_same xs (class_tokens_of (builder_events before) ++ ts) (item a) t all)) is)
+    absurd (other a (sym (same_from_push xs (class_tokens_of (builder_events before) ++ ts) (item a) t all).1) is)
 
 module _ (e : Environment) (added : ℕ) (old new : Cursor) (before after : ClassBuilder) where
   -- More events that lead on by some units.

@@ -25,7 +25,7 @@ pub enum ClassAtom {
     Property(UnicodePropertyEscape),
 }
 
-/// A character that stands next as an atom of a class without `v`, and how many units spell it.
+/// A common character that stands next in a class, and how many units spell it.
 #[derive(Clone, Copy)]
 pub struct CommonAtom {
     /// How it is written.

@@ -111,6 +111,7 @@ impl<C: Counter> Reading<'_, '_, '_, '_, '_, C> {
         let start = self.offset();
         let negative = self.class_opener();
         clear(contents);
+        contents.reserve(CONTENTS_RESERVED)?;
         while !begins_with(self.units(), ']') {
             if self.peek().is_none() {
                 let span = self.span_from(start);
@@ -165,6 +166,9 @@ fn take_out(
     let next = List::new(contents.allocator());
     Ok(std::mem::replace(contents, next))
 }
+
+/// For how many contents of a class memory is taken before the first: most classes have no more, so that their list never grows.
+const CONTENTS_RESERVED: usize = 16;
 
 /// How many contents of a class are few: most classes have no more.
 const FEW_CONTENTS: usize = 64;

@@ -41,6 +41,7 @@ impl ClassBuilder {
 
     /// Opens a bracket where an operand may stand.
     #[tactic(auto, using(crate::proofs::SetReading::BuilderGrowth::open_events, crate::proofs::SetReading::BuilderGrowth::open_well))]
+    #[inline(always)]
     pub fn open(&mut self, alloc: Global, start: u32, negative: bool) -> Result<(), OutOfMemory>
         requires well { IsWellBuilt self.old }
         requires operand { IsSome (operand (mirror_held self.old.inner.held)) }
@@ -54,6 +55,7 @@ impl ClassBuilder {
 
     /// Adds an operand or a range, which may match strings or not. After it the innermost bracket holds `held`.
     #[tactic(auto, using(crate::proofs::SetReading::BuilderGrowth::inner_events, crate::proofs::SetReading::BuilderGrowth::inner_well))]
+    #[inline(always)]
     pub fn push(
         &mut self,
         contents: CharacterClassContents,
@@ -90,6 +92,7 @@ impl ClassBuilder {
     }
 
     /// Closes the innermost bracket, which ends before the byte `end`: it is an operand of the one around it.
+    #[inline(always)]
     pub fn close(&mut self, alloc: Global, end: u32) -> Result<(), OutOfMemory>
         requires well { IsWellBuilt self.old }
         requires nested { self.old.outer ≢ [] }

@@ -148,7 +148,8 @@ fn set_escape_at<C: Counter>(units: &[CodePoint], steps: &mut C) -> EscapeFound
 
 /// Whether a value stands for itself before some units: it is no ClassSetSyntaxCharacter, and begins no
 /// ClassSetReservedDoublePunctuator.
-fn stands_raw(value: u32, following: &[CodePoint]) -> bool
+#[inline(always)]
+pub(crate) fn stands_raw(value: u32, following: &[CodePoint]) -> bool
     ensures { result ≡ stands_raw_in_class Sets value (values following.now) }
 {
     !is_class_set_syntax_character(value)

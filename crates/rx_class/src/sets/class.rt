@@ -32,6 +32,9 @@ impl<C: Counter> Reading<'_, '_, '_, '_, '_, C> {
         let negative = self.class_opener();
         let mut builder = ClassBuilder::new(self.alloc, start, negative);
         while !self.set_class_ends(&builder) {
+            if self.take_common_turn(&mut builder)? {
+                continue;
+            }
             self.read_turn(&mut builder)?;
         }
         self.refuse_negative_strings(&builder)?;
@@ -47,6 +50,7 @@ impl<C: Counter> Reading<'_, '_, '_, '_, '_, C> {
     }
 
     /// Reads what is at the place in the innermost open bracket, but for the class's own `]`.
+    #[inline(never)]
     fn read_turn(&mut self, builder: &mut ClassBuilder) -> Result<(), Fault>
         requires sets { IsOfSets (environment_of self.old.state.now) self.old.reader.now }
         requires well { IsWellBuilt builder.old }
@@ -66,7 +70,7 @@ impl<C: Counter> Reading<'_, '_, '_, '_, '_, C> {
                 self.operator(builder, operator, after);
                 Ok(())
             }
-            Turn::Open { negative } => self.open_bracket(builder, negative),
+            Turn::Open { negative } => Ok(self.open_bracket(builder, negative)?),
             Turn::Strings(after) => self.strings_operand(builder, after),
             Turn::Character { found, after } => self.character_operand(builder, found, after),
             Turn::Escape { kind, after } => self.escape_operand(builder, kind, after),

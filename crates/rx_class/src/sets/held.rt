@@ -1,7 +1,7 @@
-ghost use Rattle.std.specs.Prelude.{◌≡◌, ◌↔◌, IsTrue};
+ghost use Rattle.std.specs.Prelude.{◌≡◌, ◌↔◌, IsTrue, Some, true};
 ghost use Rattle.std.specs.Option.{option_map};
 ghost use Rattle.rx_model.specs.Classes.ClassFromTokens.{kind_of};
-ghost use Rattle.rx_model.specs.Classes.ClassRuns.{empty, is_whole, operand, operator_of, with_range, with_strings, pending, with_operator};
+ghost use Rattle.rx_model.specs.Classes.ClassRuns.{empty, is_union, is_whole, operand, operator_of, with_range, with_strings, pending, with_operator};
 ghost use Rattle.rx_class.specs.SetReading.HeldMirror.{mirror_held};
 
 use rx_ast::CharacterClassContentsKind;
@@ -36,6 +36,27 @@ impl Held {
             Held::Single | Held::Several => Some(Held::Several),
             Held::Pending(operator) => Some(Held::Joined(operator)),
             Held::Joined(_) => None,
+        }
+    }
+
+    /// Whether no operator is held.
+    #[inline(always)]
+    pub fn is_union(self) -> bool
+        ensures { result ≡ is_union (mirror_held self) }
+    {
+        matches!(self, Held::Empty | Held::Single | Held::Several)
+    }
+
+    /// What a union holds after one more operand.
+    #[inline(always)]
+    pub fn with_member(self) -> Held
+        requires { is_union (mirror_held self) ≡ true }
+        ensures { operand (mirror_held self) ≡ Some (mirror_held result) }
+    {
+        if self.is_empty() {
+            Held::Single
+        } else {
+            Held::Several
         }
     }
 

@@ -1,14 +1,16 @@
-ghost use Rattle.std.specs.Prelude.{◌≡◌, ◌++◌, ◌∷◌, ◌&&◌, [], OnOk, Some, false};
+ghost use Rattle.std.specs.Prelude.{◌≡◌, ◌≤◌, ◌++◌, ◌∷◌, ◌&&◌, [], OnOk, Some, false, true};
+ghost use Rattle.rx_ast.specs.ClassTree as ClassTree;
 ghost use Rattle.rx_ast.specs.ClassTree.{mirror_class, mirror_contents};
-ghost use Rattle.rx_model.specs.Classes.ClassRuns.{bracket_of, empty, with_strings};
+ghost use Rattle.rx_model.specs.Classes.ClassRuns.{bracket_of, empty, is_union, operand, with_range, with_strings};
 ghost use Rattle.rx_model.specs.Classes.ClassTokens.{bracket, enter, member_events, token};
 ghost use Rattle.rx_model.specs.Trees.Early.{member_strings};
 ghost use Rattle.rx_class.specs.SetReading.BuilderEvents.{bracket_at, bracket_events, class_of, with_member};
 ghost use Rattle.rx_class.specs.SetReading.HeldMirror.{mirror_held};
 ghost use Rattle.rx_class.specs.SetReading.WellBuilt.{IsSound, IsWellHeld};
 
+use crate::classes::item::range_contents;
 use crate::sets::held::Held;
-use rx_ast::{CharacterClass, CharacterClassContents};
+use rx_ast::{Character, CharacterClass, CharacterClassContents, CharacterClassRange};
 use rx_base::{List, OutOfMemory, Span};
 use std::alloc::Global;
 
@@ -30,6 +32,7 @@ pub struct OpenBracket {
 impl OpenBracket {
     /// A bracket in which nothing was read.
     #[tactic(auto, using(crate::proofs::SetReading::OpenBrackets::new_bracket, crate::proofs::SetReading::OpenBrackets::well_new))]
+    #[inline(always)]
     pub fn new(alloc: Global, start: u32, negative: bool) -> OpenBracket
         ensures events { bracket_events result ≡ enter start ∷ token (bracket negative) ∷ [] }
         ensures bracket { bracket_at result ≡ bracket_of negative empty false }
@@ -45,6 +48,7 @@ impl OpenBracket {
     }
 
     /// Adds an operand or a range, which may match strings or not. After it the bracket holds `held`.
+    #[inline(always)]
     pub fn push(
         &mut self,
         contents: CharacterClassContents,
@@ -62,6 +66,41 @@ impl OpenBracket {
         self.body.push(contents)?;
         self.strings = self.held.with_strings(self.strings, strings);
         self.held = held;
+        Ok(())
+    }
+
+    /// Adds a character to a union.
+    #[inline(always)]
+    pub fn add_character(&mut self, character: Character) -> Result<(), OutOfMemory>
+        requires union { is_union (mirror_held self.old.held) ≡ true }
+        requires well { IsWellHeld self.old }
+        requires code_point { character.value ≤ 0x10FFFF }
+        ensures events { OnOk result (bracket_events self.new ≡ bracket_events self.old ++ member_events (ClassTree.character character)) }
+        ensures held { OnOk result (operand (mirror_held self.old.held) ≡ Some (mirror_held self.new.held)) }
+        ensures well { OnOk result (IsWellHeld self.new) }
+    {
+        self.body
+            .push(CharacterClassContents::Character(character))?;
+        self.held = self.held.with_member();
+        Ok(())
+    }
+
+    /// Adds a range to a union.
+    #[inline(always)]
+    pub fn add_range(
+        &mut self,
+        alloc: Global,
+        range: CharacterClassRange,
+    ) -> Result<(), OutOfMemory>
+        requires union { is_union (mirror_held self.old.held) ≡ true }
+        requires well { IsWellHeld self.old }
+        requires sound { IsSound (ClassTree.range range) }
+        ensures events { OnOk result (bracket_events self.new ≡ bracket_events self.old ++ member_events (ClassTree.range range)) }
+        ensures held { OnOk result (with_range (mirror_held self.old.held) ≡ Some (mirror_held self.new.held)) }
+        ensures well { OnOk result (IsWellHeld self.new) }
+    {
+        self.body.push(range_contents(alloc, range)?)?;
+        self.held = Held::Several;
         Ok(())
     }
 

@@ -15,11 +15,18 @@ loop-self-init g c =
     let opener = c.class_opener-negative in
     record {
       inside =
-          subst (λ body. IsInClass (environment_of old.state.now) old.spans.now old.reader.now opener.new.self.reader.now opener.result (contents body)) (sym c.clear.ensures)
+          subst (λ body. IsInClass (environment_of old.state.now) old.spans.now old.reader.now opener.new.self.reader.now opener.result (contents body)) (sym (c.in_ok-reserve.ensures ∙ c.clear.ensures))
           (begins_class (environment_of old.state.now) old.spans.now old.reader.now (move_on 1 old.reader.now) opener.new.self.reader.now opener.result c.requires.bracket refl opener.ensures.value opener.ensures.reader);
       paced = opener.ensures.steps;
       on = opener.ensures.on;
     }
+
+pub returns-in_err-reserve-clause-gives : goal.returns-in_err-reserve-clause-gives
+returns-in_err-reserve-clause-gives g c =
+    let old = c.args.self.now.reader.now in
+    let opener = c.class_opener-negative in
+    let begun = begins_class (environment_of c.args.self.now.state.now) c.args.self.now.spans.now old (move_on 1 old) opener.new.self.reader.now opener.result c.requires.bracket refl opener.ensures.value opener.ensures.reader in
+    handed (GivesOneClass _ _ _ _) c.from_residual.ensures.1 (no_memory (passes_keeps begun.passes))
 
 pub returns-then-is_none-clause-gives : goal.returns-then-is_none-clause-gives
 returns-then-is_none-clause-gives g c =
@@ -33,7 +40,7 @@ add_item-requires-clause-no_sets g c = rw c.loop-self.invariant.on.state c.requi
 pub returns-in_err-add_item-clause-gives : goal.returns-in_err-add_item-clause-gives
 returns-in_err-add_item-clause-gives g c =
     let on = c.loop-self.invariant.on in
-    handed (GivesOneClass (environment_of c.args.self.now.state.now) c.args.self.now.spans.now c.args.self.now.reader.now c.add_item.new.self.reader.now) c.from_residual.ensures.1
+    handed (GivesOneClass (environment_of c.args.self.now.state.now) c.args.self.now.spans.now c.args.self.now.reader.now c.add_item.new.self.reader.now) c.from_residual-in_err-add_item.ensures.1
     (refused_gives c.loop-self.invariant.inside c.requires.no_sets c.requires.environment c.add_item.new.self.reader.now c.in_err-add_item.field-0.0 (rw (on.state, on.spans) at c.in_err-add_item.ensures.refused))
 
 pub loop-self-smaller : goal.loop-self-smaller

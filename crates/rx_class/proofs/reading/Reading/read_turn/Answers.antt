@@ -1,5 +1,7 @@
 use Rattle.std.proofs.Common.{sym, ap, arith, length, ◌∙◌}
-use Rattle.rx_class.proofs.Common.{true≢false, rest, environment_of, seen_character, seen_front, adds, most_set_looks}
+use Rattle.rx_class.proofs.Common.{true≢false, rest, environment_of, seen_character, seen_front, GivesTurn, adds, most_set_looks}
+use Rattle.rx_class.specs.SetReading.Progress.{no_memory}
+use Rattle.rx_class.proofs.Keeping.{handed}
 use Rattle.rx_class.proofs.SetReading.Fronts.{set_front_is}
 use Rattle.rx_class.proofs.SetReading.Paces.{adds_left, front_fits, no_steps, with_looks}
 use Rattle.rx_class.proofs.SetReading.Refusals.{begins_closer, front_stands, nothing_there}
@@ -35,6 +37,12 @@ close_bracket-requires-clause-nested g c = λ none.
 pub returns-in-Operator-clause-gives : goal.returns-in-Operator-clause-gives
 returns-in-Operator-clause-gives g c = adds (c.operator.ensures.added (environment_of c.args.self.now.state.now) c.args.self.now.spans.now c.requires.sets)
 
+pub returns-in_ok-open_bracket-in-Open-clause-gives : goal.returns-in_ok-open_bracket-in-Open-clause-gives
+returns-in_ok-open_bracket-in-Open-clause-gives g c = adds (c.in_ok-open_bracket-in-Open.ensures.added (environment_of c.args.self.now.state.now) c.requires.sets)
+
+pub returns-in_err-open_bracket-in-Open-clause-gives : goal.returns-in_err-open_bracket-in-Open-clause-gives
+returns-in_err-open_bracket-in-Open-clause-gives g c = handed (GivesTurn _ _ _ _ _ _) c.from_residual.ensures.1 (no_memory c.in_err-open_bracket-in-Open.ensures.refused)
+
 pub returns-in-Nothing-clause-gives : goal.returns-in-Nothing-clause-gives
 returns-in-Nothing-clause-gives g c =
     let sets = c.requires.sets in
@@ -47,9 +55,6 @@ returns-in-Nothing-clause-gives g c =
 
 pub returns-in-Close-clause-steps : goal.returns-in-Close-clause-steps
 returns-in-Close-clause-steps g c = rw (no_steps _ _ (rw c.in-Close.ensures.0 at c.set_front_at-front.ensures.steps)) c.close_bracket.ensures.steps
-
-pub returns-in-Open-clause-steps : goal.returns-in-Open-clause-steps
-returns-in-Open-clause-steps g c = rw (no_steps _ _ (rw c.in-Open.ensures.0 at c.set_front_at-front.ensures.steps)) c.open_bracket.ensures.steps
 
 pub returns-in-Strings-clause-steps : goal.returns-in-Strings-clause-steps
 returns-in-Strings-clause-steps g c = rw (no_steps _ _ (rw c.in-Strings.ensures.0 at c.set_front_at-front.ensures.steps)) c.strings_operand.ensures.steps
