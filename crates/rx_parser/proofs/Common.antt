@@ -1,4 +1,4 @@
--- The names that more than one proof of this crate cites, passed on from one place. Declares nothing.
+-- Names that proofs of this crate cite, passed on from one place. Declares nothing.
 pub use Rattle.rx_ast.specs.ClassTree.{Class, mirror_class}
 pub use Rattle.rx_ast.specs.Spans.{class_span, leaf_span, node_span}
 pub use Rattle.rx_ast.specs.Tree.{Node, alternatives, group, leaf, mirror_alternative, mirror_disjunction, mirror_term, nodes, quantified}

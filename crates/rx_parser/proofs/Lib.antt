@@ -1,5 +1,6 @@
 pub mod ClassTurns
 pub mod Common
+pub mod CommonFlags
 pub mod Endings
 pub mod EventEquations
 pub mod FirstUnits
@@ -10,7 +11,6 @@ pub mod Halts
 pub mod Inputs
 pub mod Insides
 pub mod Leaves
-pub mod LoneFlags
 pub mod Looks
 pub mod ModifierBits
 pub mod ModifiersFound

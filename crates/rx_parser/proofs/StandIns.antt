@@ -17,12 +17,12 @@ use Rattle.rx_model.specs.declared.form.Form.TheVariants.{Literal as of_slashes,
 use Rattle.rx_model.proofs.Inputs.Asked.{some_literal}
 
 -- in double quotes
-abbrev string : Literal
+abbrev pub string : Literal
 string = literals.String quotes.Double
 
 module _ (o : Options) (from : Place) where
   -- one more character that stands for itself
-  character_more : (p : Place) (c : ℕ) (rest : List ℕ) → Leads string o from p → p.rest ≡ c ∷ rest → is_string_character 34 c ≡ true
+  pub character_more : (p : Place) (c : ℕ) (rest : List ℕ) → Leads string o from p → p.rest ≡ c ∷ rest → is_string_character 34 c ≡ true
       → Leads string o from (next_place o p (written c Plain) (c ∷ []) rest)
   character_more p c rest leads stands is = one_more (written c Plain) (c ∷ []) rest leads stands (character is) refl
 

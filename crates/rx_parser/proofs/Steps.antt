@@ -14,7 +14,7 @@ pub record Grows (b c : Builder) (es : Events) (open_groups : List Opener) (read
   pub good : IsGood b → IsGood c
   pub fixed : fixed_of c ≡ fixed_of b
 
--- what follows where a call of the builder ends well, which tells each part of that
+-- From the clauses of a call of the builder that ends well, to what follows from all of them
 pub grown_on_ok : {A E P : Type 0} {b c : Builder} {es : Events} {open_groups : List Opener} {ready_then : Bool} (result : Result A E) → OnOk result (builder_events c ≡ builder_events b ++ es)
     → OnOk result (openers c ≡ open_groups) → OnOk result (ready c ≡ ready_then) → OnOk result (IsGood b → IsGood c) → fixed_of c ≡ fixed_of b → (Grows b c es open_groups ready_then → P) → OnOk result P
 grown_on_ok (Ok it) e o r g f follows = follows (record { events = e; openers_are = o; ready_is = r; good = g; fixed = f })

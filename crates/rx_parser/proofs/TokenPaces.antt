@@ -1,9 +1,13 @@
 -- A token that stands next is read at its pace, or the reading is bounded.
-use Rattle.std.proofs.Common.{◌≡◌, ◌∙◌, ap, sym, ℕ, ◌+◌, ◌-◌, ◌*◌, ◌<◌, ◌≤◌, List, length, drop, min, arith, length-drop, Result, Ok, Err, OnOk}
+use Rattle.std.proofs.Common.{◌≡◌, ◌∙◌, ap, sym, ℕ, ◌+◌, ◌-◌, ◌*◌, ◌<◌, ◌≤◌, Bool, true, false, List, length, drop, min, arith, length-drop, Result, Ok, Err, MatchResult, OnOk}
 use Rattle.std.proofs.lemmas.List.{drop-drop}
-use Rattle.rx_parser.proofs.Common.{Rises, CodePoint, Cursor, move_on, rest, IsTokenPaced, IsTurnPaced, MovesOver, TakesToken, plain, token_looks}
-use Rattle.rx_units.specs.Pace.{units_left}
+use Rattle.rx_units.specs.Pace.{IsMove, TakesSteps, units_left}
+use Rattle.rx_parser.proofs.Common.{Rises, CodePoint, Cursor, HasMore, HasTurned, IsTokenPaced, Mode, MovesOver, Parse, Rules, StandsNext, State, TakesToken, halt_end, looks, move_on, plain, rest, token_looks}
 use Rattle.rx_parser.proofs.Paces.{plain_within}
+use Rattle.rx_parser.specs.Pace.{MayTakeToken, TakesFound}
+use Rattle.rx_parser.specs.Turns.{MayTurn}
+use Rattle.rx_parser.specs.declared.found.Found.{Found}
+use Rattle.rx_parser.specs.declared.found.Found.TheVariants as found
 
 module _ (from to : Cursor) (n old mid new : ℕ) where
   -- however it ends
@@ -25,11 +29,48 @@ module _ (from to : Cursor) (n old mid new : ℕ) where
       let gone : units_left to + n ≡ units_left from = omega (arith, place, some, within, on, length-drop from.place from.units, length-drop to.place to.units, ap (λ (us : List CodePoint). length us) units) in
       (omega (arith, first.0, least), omega (arith, first.1, more, seam, gone, some))
 
-  pub token_taken : {A E : Type 0} (result : Result A E) → OnOk result (from.place < to.place) → n ≤ length (rest from)
-      → Rises old mid 0 (token_looks (drop 1 (rest from)) n) → MovesOver n mid new from to result → TakesToken old new from to result
-  token_taken (Ok it) on within first h = token_paced on h.0 within first h.1 h.2
-  token_taken (Err it) on within first h = token_bounded within first h
+-- after a turn fewer units are left
+left_less : {p q : Parse} → HasTurned p q → units_left q.reader < units_left p.reader
+left_less {p} {q} h =
+    omega (
+      arith,
+      h.moved,
+      h.under_way.parsing.within,
+      length-drop p.reader.place p.reader.units,
+      length-drop q.reader.place q.reader.units,
+      ap (λ (k : Mode × Rules × List CodePoint × ℕ × ℕ × State). length k.2) h.kept,
+    )
 
--- a turn after others
-pub turns_paced : (from between to : Cursor) (old mid new : ℕ) → IsTurnPaced old mid from between → IsTurnPaced mid new between to → IsTurnPaced old new from to
-turns_paced from between to old mid new h k = (omega (arith, h.0, k.0), omega (arith, h.1, k.1))
+-- a call that may turn, with a step for each unit that it moves over
+pub move_taken : {E : Type 0} (p q : Parse) (old new : ℕ) (result : Result Bool E) → MayTurn p q result → IsMove old new p.reader q.reader → MayTakeToken old new p.reader q.reader result
+move_taken p q old new (Ok true) h moves = let less = left_less h in (omega (arith, moves), omega (arith, moves, less))
+move_taken p q old new (Ok false) h moves = omega (arith, moves, ap (λ (p : Parse). units_left p.reader) h)
+move_taken p q old new (Err it) h moves = omega (arith, moves)
+
+-- what is found, and read
+module _ {A E : Type 0} {p : Parse} (more : HasMore p) (q : Parse) (old mid new : ℕ) where
+  token_taken : (n : ℕ) (result : Result A E) → n ≤ length (rest p.reader) → OnOk result (HasTurned p q) → Rises old mid 0 (token_looks (drop 1 (rest p.reader)) n)
+      → MovesOver n mid new p.reader q.reader result → TakesToken old new p.reader q.reader result
+  token_taken n (Ok it) within turned first h = token_paced p.reader q.reader n old mid new turned.moved h.0 within first h.1 h.2
+  token_taken n (Err it) within turned first h = token_bounded p.reader q.reader n old mid new within first h
+
+  later_taken : (result : Result A E) → OnOk result (HasTurned p q) → Rises old mid 0 0 → TakesSteps 6 mid new p.reader q.reader result → TakesToken old new p.reader q.reader result
+  later_taken (Ok it) turned first h = let less = left_less turned in (omega (arith, first.0, h.0), omega (arith, first.1, h.1, less))
+  later_taken (Err it) turned first h = omega (arith, first.1, h)
+
+  halt_taken : (n : ℕ) (result : Result A E) → n ≤ length (rest p.reader) → Rises old mid 0 (3 * length (drop 1 (rest p.reader)) + 9) → MatchResult result (λ _. ⊥) (λ _. new ≤ mid + n)
+      → TakesToken old new p.reader q.reader result
+  halt_taken n (Ok it) within first h = absurd h
+  halt_taken n (Err it) within first h = omega (arith, within, first.1, h, more.left, length-drop p.reader.place p.reader.units, length-drop 1 (rest p.reader))
+
+  pub found_taken : (it : Found) (result : Result A E) → StandsNext p it → OnOk result (HasTurned p q) → Rises old mid 0 (looks (drop 1 (rest p.reader)) it)
+      → TakesFound it mid new p.reader q.reader result → TakesToken old new p.reader q.reader result
+  found_taken (found.Leaf leaf n) result stands turned = token_taken n result stands.1 turned
+  found_taken (found.NamedReference n) result stands turned = token_taken n result stands.2.within turned
+  found_taken found.Property result stands turned = later_taken result turned
+  found_taken found.Class result stands turned = later_taken result turned
+  found_taken (found.Open opener n) result stands turned = token_taken n result stands.1.1 turned
+  found_taken found.Close result stands turned = token_taken 1 result stands.1 turned
+  found_taken found.Bar result stands turned = token_taken 1 result stands.1 turned
+  found_taken (found.Quantifier least most greedy n) result stands turned = token_taken n result stands.1 turned
+  found_taken (found.Halt it) result stands turned = halt_taken (halt_end it) result stands.1

@@ -20,10 +20,10 @@ abbrev pub flags_length : Option (Bor (List ℕ)) → ℕ
 flags_length None = 0
 flags_length (Some flags) = length flags.now
 
--- the flags text that asks for a mode and for nothing else, of a constructor in double quotes
-abbrev pub lone_flags : Form → Mode → List ℕ
-lone_flags Literal mode = flags_for mode
-lone_flags Constructor mode = ascii.quotation_mark ∷ flags_for mode ++ ascii.quotation_mark ∷ []
+-- the flags text that asks for a mode and for nothing else, of an argument of `RegExp` in double quotes
+abbrev pub common_flags : Form → Mode → List ℕ
+common_flags Literal mode = flags_for mode
+common_flags Constructor mode = ascii.quotation_mark ∷ flags_for mode ++ ascii.quotation_mark ∷ []
 
 -- how many bytes stand in for an empty text
 abbrev pub stand_in_length : Form → ℕ

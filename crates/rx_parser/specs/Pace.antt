@@ -5,7 +5,8 @@ use Rattle.rx_base.specs.Rising.{Rises}
 use Rattle.rx_tables.specs.Characters.{is_decimal_digit, is_syntax_character}
 use Rattle.rx_units.specs.declared.code_point.CodePoint.{CodePoint}
 use Rattle.rx_units.specs.Cursor.{Cursor, move_on, rest}
-use Rattle.rx_units.specs.Pace.{units_left}
+use Rattle.rx_units.specs.Pace.{TakesSteps, units_left}
+use Rattle.rx_parser.specs.HaltPlaces.{halt_end}
 use Rattle.rx_parser.specs.declared.counts.CountsFound.{CountsFound}
 use Rattle.rx_parser.specs.declared.counts.CountsFound.TheVariants as counts
 use Rattle.rx_parser.specs.declared.found.Found.{Found}
@@ -92,6 +93,18 @@ MovesOver n old new from to result =
     MatchResult result (λ _. (to ≡ move_on n from) × (old + units_left from ≤ new + units_left to) × (new + units_left to ≤ old + units_left from + 2 * (n - 1)))
     (λ _. new + units_left to ≤ old + units_left from + 2 * (n - 1))
 
+-- So many steps it takes to read what is found. Properties and classes are read by `rx_class`.
+abbrev pub TakesFound : {A E : Type 0} → Found → ℕ → ℕ → Cursor → Cursor → Result A E → Type 0
+TakesFound (found.Leaf leaf n) old new from to result = MovesOver n old new from to result
+TakesFound (found.NamedReference n) old new from to result = MovesOver n old new from to result
+TakesFound found.Property old new from to result = TakesSteps 6 old new from to result
+TakesFound found.Class old new from to result = TakesSteps 6 old new from to result
+TakesFound (found.Open opener n) old new from to result = MovesOver n old new from to result
+TakesFound found.Close old new from to result = MovesOver 1 old new from to result
+TakesFound found.Bar old new from to result = MovesOver 1 old new from to result
+TakesFound (found.Quantifier least most greedy n) old new from to result = MovesOver n old new from to result
+TakesFound (found.Halt it) old new from to result = MatchResult result (λ _. ⊥) (λ _. new ≤ old + halt_end it)
+
 -- A token takes at least a step for each of its units, and at most seven, with one left over; and two for each unit after it that stands for itself, since such units
 -- may have been looked at.
 abbrev pub IsTokenPaced : ℕ → ℕ → Cursor → Cursor → Type 0
@@ -109,19 +122,14 @@ abbrev pub IsTurnPaced : ℕ → ℕ → Cursor → Cursor → Type 0
 IsTurnPaced old new from to =
     (old + units_left from ≤ new + units_left to) × (new + 7 * units_left to + 2 * plain (rest from) ≤ old + 7 * units_left from + 2 * plain (rest to))
 
--- A turn that ends well keeps the pace, and one that is refused is bounded.
-abbrev pub TakesTurn : {A E : Type 0} → ℕ → ℕ → Cursor → Cursor → Result A E → Type 0
-TakesTurn old new from to result =
-    MatchResult result (λ _. IsTurnPaced old new from to) (λ _. new + 2 * plain (rest from) ≤ old + 7 * units_left from + 8)
-
 -- A call that may read a token keeps its pace where it answers `true`, and takes no step where it answers `false`; one that is refused is bounded.
 abbrev pub MayTakeToken : {E : Type 0} → ℕ → ℕ → Cursor → Cursor → Result Bool E → Type 0
 MayTakeToken old new from to result =
     MatchResult result (λ it. MatchBool it (IsTokenPaced old new from to) (new ≡ old)) (λ _. new ≤ old + 7 * units_left from + 7)
 
--- A call that may take a turn keeps the pace where it answers `true`. Where it answers `false`, no unit that stands next stands for itself, and it takes a step at most;
--- one that is refused is bounded.
+-- A call that may take a turn keeps the pace where it answers `true`. Where it answers `false`, the next unit is a SyntaxCharacter, and it takes no step; one that is refused
+-- is bounded.
 abbrev pub MayTakeTurn : {E : Type 0} → ℕ → ℕ → Cursor → Cursor → Result Bool E → Type 0
 MayTakeTurn old new from to result =
-    MatchResult result (λ it. MatchBool it (IsTurnPaced old new from to) (Rises old new 0 1 × (plain (rest from) ≡ 0)))
+    MatchResult result (λ it. MatchBool it (IsTurnPaced old new from to) ((new ≡ old) × (plain (rest from) ≡ 0)))
     (λ _. new + 2 * plain (rest from) ≤ old + 7 * units_left from + 8)

@@ -1,5 +1,5 @@
 -- What one turn of a parse asks for, and what it does.
-use Rattle.std.specs.Prelude.{◌≡◌, ℕ, ◌<◌, List, length}
+use Rattle.std.specs.Prelude.{◌≡◌, ℕ, ◌<◌, Bool, List, length, IfOk, MatchBool, Result}
 use Rattle.rx_base.specs.declared.fault.Fault.{Fault}
 use Rattle.rx_units.specs.declared.code_point.CodePoint.{CodePoint}
 use Rattle.rx_units.specs.Cursor.{Cursor, rest}
@@ -38,6 +38,10 @@ pub record HasTurned (p q : Parse) : Type 0 where
   pub under_way : IsUnderWay q
   pub kept : fixed_parts q ≡ fixed_parts p
   pub moved : p.reader.place < q.reader.place
+
+-- Where it answers `true` the parse has turned, and where it answers `false` nothing has changed.
+abbrev pub MayTurn : {E : Type 0} → Parse → Parse → Result Bool E → Type 0
+MayTurn p q result = IfOk result (λ it. MatchBool it (HasTurned p q) (q ≡ p))
 
 -- memory ran out, or the text is refused by its first refusal
 abbrev pub RefusesText : Parse → Fault → Type 0

@@ -86,6 +86,7 @@ impl Builder {
     }
 
     /// Ends an alternative before a bar, and begins the next after it.
+    #[inline(always)]
     #[tactic(auto, using(crate::proofs::FrameEvents::builder_level, crate::proofs::Goods::good_level))]
     pub fn bar(&mut self, alloc: Global, at: u32, after: u32) -> Result<(), OutOfMemory>
         ensures events { OnOk result (builder_events self.new ≡ builder_events self.old ++ (leave at ∷ token bar ∷ enter after ∷ [])) }

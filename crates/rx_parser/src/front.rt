@@ -109,8 +109,8 @@ fn boundary_at(following: &[CodePoint], environment: Environment) -> Option<Boun
     }
 }
 
-/// The leaf that the units, of which the first is a backslash, begin with, and its length in units, where it is an escape that most are: one that
-/// `common_escape_at` finds, a class escape but a property's, or `\b` or `\B`. `None` says nothing: another leaf may stand there.
+/// The leaf that the units begin with, of which the first is a backslash, and how many units it has, where it is a common escape: one that
+/// `common_escape_at` finds, a class escape other than of a property, `\b` or `\B`. `None` does not mean that no leaf stands there.
 ///
 /// It counts no step. The caller that takes the leaf counts one for each unit past the second.
 #[inline(always)]

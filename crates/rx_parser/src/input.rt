@@ -3,7 +3,7 @@ ghost use Rattle.std.specs.Str.{chars};
 ghost use Rattle.rx_class.specs.Fitting.{AreFitting};
 ghost use Rattle.rx_model.specs.Inputs.Modes.{mode_by};
 ghost use Rattle.rx_model.specs.Inputs.Texts.{literal_text, quoted_text, some_units};
-ghost use Rattle.rx_parser.specs.Inputs.{flags_length, lone_flags, stand_in_length};
+ghost use Rattle.rx_parser.specs.Inputs.{common_flags, flags_length, stand_in_length};
 
 use crate::{Options, PatternParser};
 use rx_ast::Pattern;
@@ -55,21 +55,30 @@ impl<'a> Input<'a> {
         ensures asked { IfOk result (AsksFor (seen_input self.now)) }
         ensures refused { IfErr result (IsFaultOf (seen_input self.now)) }
     {
-        match self.flags_text {
-            None => Ok(Mode::Legacy),
-            Some(flags) => {
-                if let Some(mode) = lone_mode(self.form, flags) {
-                    return Ok(mode);
-                }
-                let span_offset = self.options.flags_span_offset;
-                let reader = self.reader_of(alloc, flags, true, span_offset)?;
-                let modes = FlagsParser::new(reader, span_offset).parse()?;
-                Ok(Mode::of(modes.0, modes.1))
-            }
+        let Some(flags) = self.flags_text else {
+            return Ok(Mode::Legacy);
+        };
+        match common_mode(self.form, flags) {
+            Some(mode) => Ok(mode),
+            None => self.read_mode(alloc, flags),
         }
     }
 
+    /// The mode that a flags text asks for, by a reader of it.
+    #[inline(never)]
+    fn read_mode(&self, alloc: Global, flags: &'a str) -> Result<Mode, Fault>
+        requires { self.now.flags_text ≡ Some flags }
+        ensures asked { IfOk result (AsksFor (seen_input self.now)) }
+        ensures refused { IfErr result (IsFaultOf (seen_input self.now)) }
+    {
+        let span_offset = self.options.flags_span_offset;
+        let reader = self.reader_of(alloc, flags, true, span_offset)?;
+        let modes = FlagsParser::new(reader, span_offset).parse()?;
+        Ok(Mode::of(modes.0, modes.1))
+    }
+
     /// A reader of the units that are to be read in a mode that the flags ask for.
+    #[inline(always)]
     fn pattern_reader(&self, alloc: Global, mode: Mode) -> Result<Reader<'a>, Fault>
         requires { AsksFor (seen_input self.now) mode }
         ensures units { IfOk result (λ reader. Asks (seen_input self.now) mode reader.units) }
@@ -86,6 +95,7 @@ impl<'a> Input<'a> {
 
     /// A reader of a text in the form of the input, by code points in unicode mode, else by code units. A quoted text that is not decoded is refused as a whole.
     // Why: docs/DECISIONS.md, 48.
+    #[inline(always)]
     fn reader_of(
         &self,
         alloc: Global,
@@ -110,6 +120,7 @@ impl<'a> Input<'a> {
     }
 
     /// A reader of a text in the form of the input, or why a quoted text is not decoded: as the standard has it, or as the Rust crate does.
+    #[inline(always)]
     fn decoded_reader(
         &self,
         alloc: Global,
@@ -155,10 +166,11 @@ fn mode_flags(mode: Mode) -> (bool, bool)
     }
 }
 
-/// The mode that a flags text asks for where the flags are none, `u` or `v` alone, of a constructor in double quotes. `None` does not mean that it is wrong.
+/// The mode that a flags text asks for, where it is common: no flag, `u` alone or `v` alone; of an argument of `RegExp`, in double quotes. `None` does not mean
+/// that the flags are wrong.
 // Why: docs/DECISIONS.md, 128.
-fn lone_mode(form: Form, flags: &str) -> Option<Mode>
-    ensures { IfSome result (λ mode. chars flags.now ≡ lone_flags form mode) }
+fn common_mode(form: Form, flags: &str) -> Option<Mode>
+    ensures { IfSome result (λ mode. chars flags.now ≡ common_flags form mode) }
 {
     match form {
         Form::Literal => match flags {
@@ -177,6 +189,7 @@ fn lone_mode(form: Form, flags: &str) -> Option<Mode>
 }
 
 /// The reader of a pattern's own units, or where it has none a reader of `"(?:)"` (EscapeRegExpPattern, ECMA-262, 22.2.6.13.1).
+#[inline(always)]
 fn some_reader<'a>(
     alloc: Global,
     own: Reader<'a>,

@@ -83,6 +83,7 @@ impl Level {
     }
 
     /// Ends an alternative before a bar, and begins the next after it.
+    #[inline(always)]
     #[tactic(auto, using(crate::proofs::EventEquations::level_bar, crate::proofs::Goods::good_bar))]
     pub fn bar(&mut self, alloc: Global, at: u32, after: u32) -> Result<(), OutOfMemory>
         ensures events { OnOk result (level_events self.new ≡ level_events self.old ++ (leave at ∷ token bar ∷ enter after ∷ [])) }
@@ -142,6 +143,7 @@ impl Level {
     }
 
     /// Ends the last alternative and the disjunction.
+    #[inline(always)]
     pub fn finish(self, at: u32) -> Result<Disjunction, OutOfMemory>
         ensures events { IfOk result (λ it. disjunction_events it ≡ level_events self ++ (leave at ∷ leave at ∷ [])) }
         ensures good { IfOk result (λ it. (mode : Mode) → IsGoodLevel mode self → IsGoodDisjunction mode it) }

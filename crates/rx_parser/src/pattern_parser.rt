@@ -54,6 +54,7 @@ impl<'a> PatternParser<'a> {
     }
 
     /// The tree of the pattern (Pattern, 22.2.1). Over no units it has one empty alternative.
+    #[inline(always)]
     pub fn parse(self) -> Result<Pattern, Fault>
         requires start { self.reader.place ≡ 0 }
         requires first { self.reader.first + self.spans < 2 ^ 32 }
@@ -66,6 +67,7 @@ impl<'a> PatternParser<'a> {
 
     /// Reads the pattern as `parse` does, and counts each unit that is moved over, and each turn of a loop that looks ahead: at most eight steps for each
     /// unit, and eight more; of a pattern that is read at least two for each unit.
+    #[inline(always)]
     pub fn parse_counted<C: Counter>(self, steps: &mut C) -> Result<Pattern, Fault>
         requires start { self.reader.place ≡ 0 }
         requires first { self.reader.first + self.spans < 2 ^ 32 }
@@ -105,6 +107,7 @@ impl<'a> PatternParser<'a> {
 
 /// Reads the pattern with a counter that no one sees.
 // Why: docs/DECISIONS.md, 98.
+#[inline(always)]
 fn parse_alone<L: Ledger>(parser: PatternParser<'_>, blank: Blank) -> Result<Pattern, Fault>
     requires name { blank.name ≡ L.name }
     requires parts { blank.parts ≡ L.parts }
@@ -161,7 +164,10 @@ fn read_pattern<C: Counter>(mut parse: Parse<'_>, steps: &mut C) -> Result<Patte
     ensures all { OnOk result (C.count steps.old + length parse.entry.reader.units ≤ C.count steps.new) }
 {
     while !parse.reader.remaining_code_points().is_empty() {
-        parse.turn(steps)?;
+        if parse.take_common(steps)? {
+            continue;
+        }
+        parse.take_token(steps)?;
     }
     if !parse.builder.is_whole() {
         return Err(fault_at_end(&parse.reader, &parse.spans, &parse.builder));

@@ -11,8 +11,9 @@ ghost use Rattle.rx_parser.specs.Faults.{IsSmall};
 ghost use Rattle.rx_parser.specs.declared.found.Halt.{Halt};
 ghost use Rattle.rx_parser.specs.declared.found.OpenerFound.{OpenerFound};
 ghost use Rattle.rx_parser.specs.GroupKinds.{IsGroupKindOf};
-ghost use Rattle.rx_parser.specs.Pace.{MayTakeToken, MayTakeTurn, MovesOver, TakesToken, TakesTurn, looks, plain};
-ghost use Rattle.rx_parser.specs.Turns.{HasTurned, IsBefore, HasMore, IsTurned, RefusesText, StandsNext};
+ghost use Rattle.rx_parser.specs.Frames.{openers, ready};
+ghost use Rattle.rx_parser.specs.Pace.{MayTakeToken, MayTakeTurn, MovesOver, TakesFound, TakesToken, looks, plain};
+ghost use Rattle.rx_parser.specs.Turns.{HasMore, HasTurned, IsBefore, IsTurned, MayTurn, RefusesText, StandsNext};
 
 use crate::ahead::stands_at;
 use crate::builder::Builder;
@@ -43,32 +44,14 @@ pub struct Parse<'a> {
 }
 
 impl<'a> Parse<'a> {
-    /// Reads one token, and gives it to the builder. A unit that is no SyntaxCharacter stands for itself in every mode (PatternCharacter of ECMA-262, 22.2.1), so
-    /// nothing else is looked for there.
-    // Why: docs/DECISIONS.md, 41.
+    /// Reads a run of units that stand for themselves, or a common token, and gives it to the builder. `false` may be answered whatever stands there; then the
+    /// parse is as it was. Fails only for lack of memory. A unit that is no SyntaxCharacter stands for itself in every mode (PatternCharacter of ECMA-262,
+    /// 22.2.1), so nothing else is looked for there.
+    // Why: docs/DECISIONS.md, 41, 127.
     #[inline(always)]
-    pub fn turn<C: Counter>(&mut self, steps: &mut C) -> Result<(), Fault>
+    pub fn take_common<C: Counter>(&mut self, steps: &mut C) -> Result<bool, OutOfMemory>
         requires { HasMore self.old }
-        ensures turned { OnOk result (HasTurned self.old self.new) }
-        ensures refused { IfErr result (RefusesText self.old) }
-        ensures steps { TakesTurn (C.count steps.old) (C.count steps.new) self.old.reader self.new.reader result }
-    {
-        if self.take_common(steps)? {
-            return Ok(());
-        }
-        if first_byte(self.reader.remaining_code_points()) == Some(b'[') {
-            return self.class(steps);
-        }
-        self.take_found(steps)
-    }
-
-    /// Reads what stands where the reader does, and gives it to the builder, where it is a run of units that stand for themselves or a token that most are.
-    /// Else the answer is `false`, whatever stands there, and nothing changes.
-    #[inline(always)]
-    fn take_common<C: Counter>(&mut self, steps: &mut C) -> Result<bool, OutOfMemory>
-        requires { HasMore self.old }
-        ensures turned { IfOk result (λ it. IsTrue it → HasTurned self.old self.new) }
-        ensures kept { IfOk result (λ it. it ≡ false → self.new ≡ self.old) }
+        ensures turned { MayTurn self.old self.new result }
         ensures steps { MayTakeTurn (C.count steps.old) (C.count steps.new) self.old.reader self.new.reader result }
     {
         let count = plain_length(self.reader.remaining_code_points(), steps);
@@ -85,16 +68,30 @@ impl<'a> Parse<'a> {
         Ok(true)
     }
 
-    /// Reads a token that most are, which its first unit tells, and gives it to the builder. Else the answer is `false`, whatever stands there, and nothing
-    /// changes.
+    /// Reads the token that stands where the reader does, whichever it is, and gives it to the builder.
+    #[inline(never)]
+    pub fn take_token<C: Counter>(&mut self, steps: &mut C) -> Result<(), Fault>
+        requires { HasMore self.old }
+        ensures turned { OnOk result (HasTurned self.old self.new) }
+        ensures refused { IfErr result (RefusesText self.old) }
+        ensures steps { TakesToken (C.count steps.old) (C.count steps.new) self.old.reader self.new.reader result }
+    {
+        if first_ascii(self.reader.remaining_code_points()) == Some(b'[') {
+            return self.class(steps);
+        }
+        self.take_found(steps)
+    }
+
+    /// Reads a common token, told by its first unit, and gives it to the builder. `false` may be answered whatever stands there; then nothing changes. Fails
+    /// only for lack of memory.
     #[inline(always)]
+    #[tactic(auto, using(crate::proofs::TokenPaces::move_taken))]
     fn take_by_first_unit<C: Counter>(&mut self, steps: &mut C) -> Result<bool, OutOfMemory>
         requires { HasMore self.old }
-        ensures turned { IfOk result (λ it. IsTrue it → HasTurned self.old self.new) }
-        ensures kept { IfOk result (λ it. it ≡ false → self.new ≡ self.old) }
+        ensures turned { MayTurn self.old self.new result }
         ensures steps { MayTakeToken (C.count steps.old) (C.count steps.new) self.old.reader self.new.reader result }
     {
-        match first_byte(self.reader.remaining_code_points()) {
+        match first_ascii(self.reader.remaining_code_points()) {
             Some(b'|') => {
                 self.bar(steps)?;
                 Ok(true)
@@ -114,12 +111,12 @@ impl<'a> Parse<'a> {
             Some(b')') => self.take_closer(steps),
             Some(b'\\') => self.take_escape(steps),
             Some(b'(') => self.take_opener(steps),
-            Some(sign) if is_sign(sign) => self.take_repeat(sign, steps),
+            Some(sign) if is_quantifier_sign(sign) => self.take_quantifier(sign, steps),
             _ => Ok(false),
         }
     }
 
-    /// The offset after the next n units, with the offset of the spans added.
+    /// The end of the span of the next n units.
     #[inline(always)]
     fn end_after(&self, length: usize) -> u32
         requires some { 0 < length }
@@ -131,17 +128,15 @@ impl<'a> Parse<'a> {
         self.spans.create(end, end).end
     }
 
-    /// Reads the escape that begins where the reader stands, where it is one that most are. Else the answer is `false`, and nothing changes.
+    /// Reads the escape that stands next, where it is a common one, and gives it to the builder. Else it answers `false`, and nothing changes.
     #[inline(always)]
     fn take_escape<C: Counter>(&mut self, steps: &mut C) -> Result<bool, OutOfMemory>
         requires more { HasMore self.old }
         requires stands { front (rest self.old.reader) ≡ Some ascii.backslash }
-        ensures turned { IfOk result (λ it. IsTrue it → HasTurned self.old self.new) }
-        ensures kept { IfOk result (λ it. it ≡ false → self.new ≡ self.old) }
+        ensures turned { MayTurn self.old self.new result }
         ensures steps { MayTakeToken (C.count steps.old) (C.count steps.new) self.old.reader self.new.reader result }
     {
-        let units = self.reader.remaining_code_points();
-        let Some((leaf, length)) = common_leaf_at(units, self.builder.mode.is_unicode()) else {
+        let Some((leaf, length)) = self.common_leaf() else {
             return Ok(false);
         };
         steps.add(length - 2);
@@ -149,35 +144,48 @@ impl<'a> Parse<'a> {
         Ok(true)
     }
 
-    /// Reads what a group begins with, where it is `(` alone or `(?:`. Else the answer is `false`, and nothing changes.
+    /// The leaf that stands next, and how many units it has, where it is a common escape.
+    #[inline(always)]
+    fn common_leaf(&self) -> Option<(Leaf, usize)>
+        requires more { HasMore self.now }
+        requires stands { front (rest self.now.reader) ≡ Some ascii.backslash }
+        ensures found { IfSome result (λ it. StandsNext self.now (Found.Leaf it.0 it.1)) }
+        ensures long { IfSome result (λ it. 2 ≤ it.1) }
+        ensures within { IfSome result (λ it. it.1 ≤ units_left self.now.reader) }
+    {
+        let units = self.reader.remaining_code_points();
+        common_leaf_at(units, self.builder.mode.is_unicode())
+    }
+
+    /// Reads `(` that no `?` follows, or `(?:`, and opens its group in the builder. Else it answers `false`, and nothing changes.
     #[inline(always)]
     fn take_opener<C: Counter>(&mut self, steps: &mut C) -> Result<bool, OutOfMemory>
         requires more { HasMore self.old }
         requires stands { front (rest self.old.reader) ≡ Some ascii.left_parenthesis }
-        ensures turned { IfOk result (λ it. IsTrue it → HasTurned self.old self.new) }
-        ensures kept { IfOk result (λ it. it ≡ false → self.new ≡ self.old) }
+        ensures turned { MayTurn self.old self.new result }
         ensures steps { MayTakeToken (C.count steps.old) (C.count steps.new) self.old.reader self.new.reader result }
     {
         let units = self.reader.remaining_code_points();
         if !stands_at(units, 1, '?') {
-            self.open_as(GroupKind::Capturing(None), 1, steps)?;
+            self.open_group(GroupKind::Capturing(None), 1, steps)?;
             return Ok(true);
         }
         if !stands_at(units, 2, ':') {
             return Ok(false);
         }
-        self.open_as(GroupKind::Ignoring(None), 3, steps)?;
+        self.open_group(GroupKind::Ignoring(None), 3, steps)?;
         Ok(true)
     }
 
-    /// Reads a `)` where a group or a look-around is open, and ends it. Else the answer is `false`, and nothing changes.
+    /// Reads a `)`, and ends the group or the look-around that it closes. Where none is open it answers `false`, and nothing changes.
     #[inline(always)]
     fn take_closer<C: Counter>(&mut self, steps: &mut C) -> Result<bool, OutOfMemory>
         requires more { HasMore self.old }
         requires found { StandsNext self.old Found.Close }
-        ensures turned { IfOk result (λ it. IsTrue it → HasTurned self.old self.new) }
-        ensures kept { IfOk result (λ it. it ≡ false → self.new ≡ self.old) }
-        ensures steps { MayTakeToken (C.count steps.old) (C.count steps.new) self.old.reader self.new.reader result }
+        ensures turned { MayTurn self.old self.new result }
+        ensures none { IfOk result (λ it. it ≡ false → openers self.old.builder ≡ []) }
+        ensures reader { IfOk result (λ it. IsTrue it → self.new.reader ≡ move_on 1 self.old.reader) }
+        ensures steps { IsMove (C.count steps.old) (C.count steps.new) self.old.reader self.new.reader }
     {
         let start = here(&self.reader, &self.spans);
         let end = self.end_after(1);
@@ -188,21 +196,40 @@ impl<'a> Parse<'a> {
         Ok(true)
     }
 
-    /// Reads a quantifier that begins with this value, `*`, `+` or `?`, and gives it the last term as its body, where that may have one. Else the answer is
-    /// `false`, and nothing changes.
+    /// Reads a quantifier that begins with this sign (`*`, `+` or `?`), and makes the last term its body. Where no term that may have a quantifier stands there
+    /// it answers `false`, and nothing changes.
     #[inline(always)]
-    fn take_repeat<C: Counter>(&mut self, sign: u8, steps: &mut C) -> Result<bool, OutOfMemory>
+    fn take_quantifier<C: Counter>(&mut self, sign: u8, steps: &mut C) -> Result<bool, OutOfMemory>
         requires more { HasMore self.old }
         requires one { is_one_of (codes "*+?") sign ≡ true }
         requires stands { front (rest self.old.reader) ≡ Some sign }
-        ensures turned { IfOk result (λ it. IsTrue it → HasTurned self.old self.new) }
-        ensures kept { IfOk result (λ it. it ≡ false → self.new ≡ self.old) }
-        ensures steps { MayTakeToken (C.count steps.old) (C.count steps.new) self.old.reader self.new.reader result }
+        ensures turned { MayTurn self.old self.new result }
+        ensures steps { IsMove (C.count steps.old) (C.count steps.new) self.old.reader self.new.reader }
     {
         let is_lazy = stands_at(self.reader.remaining_code_points(), 1, '?');
         let length = 1 + is_lazy as usize;
+        self.quantify_last(counts_of_sign(sign), !is_lazy, length, steps)
+    }
+
+    /// Reads a quantifier of n units with these counts, and makes the last term its body. Where no term that may have a quantifier stands there it answers
+    /// `false`, and nothing changes.
+    #[inline(always)]
+    fn quantify_last<C: Counter>(
+        &mut self,
+        counts: (u64, Option<u64>),
+        greedy: bool,
+        length: usize,
+        steps: &mut C,
+    ) -> Result<bool, OutOfMemory>
+        requires more { HasMore self.old }
+        requires found { StandsNext self.old (Found.Quantifier counts.0 counts.1 greedy length) }
+        ensures turned { MayTurn self.old self.new result }
+        ensures none { IfOk result (λ it. it ≡ false → ready self.old.builder ≡ false) }
+        ensures reader { IfOk result (λ it. IsTrue it → self.new.reader ≡ move_on length self.old.reader) }
+        ensures steps { IsMove (C.count steps.old) (C.count steps.new) self.old.reader self.new.reader }
+    {
         let end = self.end_after(length);
-        if !self.builder.quantify(sign_counts(sign), !is_lazy, end)? {
+        if !self.builder.quantify(counts, greedy, end)? {
             return Ok(false);
         }
         self.reader.skip_counted(length, steps);
@@ -217,7 +244,21 @@ impl<'a> Parse<'a> {
         ensures refused { IfErr result (RefusesText self.old) }
         ensures steps { TakesToken (C.count steps.old) (C.count steps.new) self.old.reader self.new.reader result }
     {
-        match self.find_here(steps) {
+        let found = self.find_here(steps);
+        self.take(found, steps)
+    }
+
+    /// Reads this token, which stands next, and gives it to the builder.
+    #[inline(always)]
+    fn take<C: Counter>(&mut self, found: Found, steps: &mut C) -> Result<(), Fault>
+        requires more { HasMore self.old }
+        requires found { StandsNext self.old found }
+        requires small { (halt : Halt) → found ≡ Found.Halt halt → IsSmall halt }
+        ensures turned { OnOk result (HasTurned self.old self.new) }
+        ensures refused { IfErr result (RefusesText self.old) }
+        ensures steps { TakesFound found (C.count steps.old) (C.count steps.new) self.old.reader self.new.reader result }
+    {
+        match found {
             Found::Leaf { leaf, length } => Ok(self.take_leaf(leaf, length, steps)?),
             Found::NamedReference { length } => self.named_reference(length, steps),
             Found::Property => self.property(steps),
@@ -347,12 +388,12 @@ impl<'a> Parse<'a> {
         ensures steps { MovesOver length (C.count steps.old) (C.count steps.new) self.old.reader self.new.reader result }
     {
         let group_kind = self.group_kind(opener, length, steps)?;
-        Ok(self.open_as(group_kind, length, steps)?)
+        Ok(self.open_group(group_kind, length, steps)?)
     }
 
     /// Reads n units, which a group or a look-around of this kind begins with, and opens it in the builder.
     #[inline(always)]
-    fn open_as<C: Counter>(
+    fn open_group<C: Counter>(
         &mut self,
         group_kind: GroupKind,
         length: usize,
@@ -416,12 +457,12 @@ impl<'a> Parse<'a> {
         ensures refused { IfErr result (RefusesText self.old) }
         ensures steps { MovesOver 1 (C.count steps.old) (C.count steps.new) self.old.reader self.new.reader result }
     {
-        let span = span_over(&mut self.reader, &self.spans, 1, steps);
-        if !self.builder.close(self.alloc, span.start, span.end)? {
-            let span = Span::empty(span.start);
-            return Err(Fault::Diagnostic(Diagnostic::ParsePatternIncomplete { span }));
+        if self.take_closer(steps)? {
+            return Ok(());
         }
-        Ok(())
+        let at = span_over(&mut self.reader, &self.spans, 1, steps).start;
+        let span = Span::empty(at);
+        Err(Fault::Diagnostic(Diagnostic::ParsePatternIncomplete { span }))
     }
 
     /// Reads a bar, and begins an alternative in the builder.
@@ -452,18 +493,18 @@ impl<'a> Parse<'a> {
         ensures refused { IfErr result (RefusesText self.old) }
         ensures steps { MovesOver length (C.count steps.old) (C.count steps.new) self.old.reader self.new.reader result }
     {
-        let span = span_over(&mut self.reader, &self.spans, length, steps);
-        if !self.builder.quantify(counts, greedy, span.end)? {
-            return Err(Fault::Diagnostic(lone_quantifier(self.builder.mode, span)));
+        if self.quantify_last(counts, greedy, length, steps)? {
+            return Ok(());
         }
-        Ok(())
+        let span = span_over(&mut self.reader, &self.spans, length, steps);
+        Err(Fault::Diagnostic(lone_quantifier(self.builder.mode, span)))
     }
 }
 
-/// The value of the first unit, where it is an ASCII character.
+/// The value of the first unit, where it is an ASCII character. `None` where there is none, or it is past ASCII.
 #[inline(always)]
-fn first_byte(units: &[CodePoint]) -> Option<u8>
-    ensures { IfSome result (λ byte. front units.now ≡ Some byte) }
+fn first_ascii(units: &[CodePoint]) -> Option<u8>
+    ensures { IfSome result (λ it. front units.now ≡ Some it) }
 {
     match units {
         [first, ..] if first.value < 128 => Some(first.value as u8),
@@ -474,7 +515,7 @@ fn first_byte(units: &[CodePoint]) -> Option<u8>
 /// The counts of `*`, `+` or `?` (QuantifierPrefix of ECMA-262, 22.2.1).
 #[inline(always)]
 #[tactic(auto, unfolding(rx_model::specs::Quantifiers::CountsReading::counts_read_at))]
-fn sign_counts(sign: u8) -> (u64, Option<u64>)
+fn counts_of_sign(sign: u8) -> (u64, Option<u64>)
     requires { is_one_of (codes "*+?") sign ≡ true }
     ensures { counts_read_at (sign ∷ []) ≡ counts_read result.0 result.1 1 }
 {
@@ -487,20 +528,20 @@ fn sign_counts(sign: u8) -> (u64, Option<u64>)
 
 /// Whether a value is one of `*`, `+` and `?`.
 #[inline(always)]
-fn is_sign(byte: u8) -> bool
-    ensures { result ≡ is_one_of (codes "*+?") byte }
+fn is_quantifier_sign(value: u8) -> bool
+    ensures { result ≡ is_one_of (codes "*+?") value }
 {
-    matches!(byte, b'*' | b'+' | b'?')
+    matches!(value, b'*' | b'+' | b'?')
 }
 
-/// How many units stand for themselves before the first that does not.
+/// How many units stand before the first SyntaxCharacter: they stand for themselves in every mode.
 #[inline(always)]
 #[tactic(auto, using(crate::proofs::PlainRuns::plain_more, crate::proofs::Paces::plain_next, crate::proofs::Paces::plain_stops, crate::proofs::Paces::plain_ends))]
 fn plain_length<C: Counter>(units: &[CodePoint], steps: &mut C) -> usize
     ensures within { result ≤ length units.now }
     ensures plain { All (λ unit. is_syntax_character unit.value ≡ false) (take result units.now) }
     ensures whole { result ≡ plain units.now }
-    ensures steps { Rises (C.count steps.old) (C.count steps.new) result (result + 1) }
+    ensures steps { C.count steps.new ≡ C.count steps.old + result }
 {
     let mut count = 0;
     while count < units.len() && !is_syntax_character(units[count].value) {

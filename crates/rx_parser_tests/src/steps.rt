@@ -86,6 +86,7 @@ a{12,34}? => 26
 (?<ab>c) => 23
 (?<a>)\\k<a> => 28
 ()\\1a => 14
+\\d\\b => 8
 \\x41 => 8
 \\u0041 => 16
 \\u{41} => 15
@@ -104,6 +105,7 @@ fn steps_of_texts_with_v(rt: HostRuntime) -> Result<(), Fail> {
     let rows = "[a--b] => 12
 [[a]&&\\d] => 18
 [\\q{ab|c}] => 20
+[\\u0061] => 20
 [\\u{61}-\\u{7A}] => 36
 [\\p{L}] => 17";
     agree(rt.alloc(), &SETS, rows)

@@ -1,9 +1,8 @@
-use Rattle.std.proofs.Common.{◌≡◌, ◌≤◌, ◌+◌, ◌*◌, ◌∙◌, ℕ, [], refl, ap, subst, List, length, drop, arith, length-drop, rules}
-use Rattle.rx_parser.proofs.Common.{Fault, Pattern, Cursor, rest, CodePoint, Mode, Rules, State, openers, IsTurnPaced, IsRefused, IsWhole, RefusesText, fixed_parts, Parse}
+use Rattle.std.proofs.Common.{◌≡◌, ◌≤◌, ◌+◌, ◌*◌, ℕ, [], false, refl, sym, subst, List, length, drop, arith, length-drop, rules}
+use Rattle.rx_parser.proofs.Common.{Fault, Pattern, Cursor, rest, CodePoint, HasMore, IsUnderWay, Mode, Rules, State, openers, IsTurnPaced, IsRefused, IsWhole, RefusesText, fixed_parts, Parse}
 use Rattle.rx_parser.proofs.Endings.{parsing_ended}
 use Rattle.rx_parser.proofs.Halts.{ended_refused}
 use Rattle.rx_parser.proofs.Paces.{plain_within}
-use Rattle.rx_parser.proofs.TokenPaces.{turns_paced}
 use Rattle.rx_parser.proofs.pattern_parser.read_pattern.Goals as goal
 
 -- What is answered after some turns is answered to what was given before them.
@@ -18,36 +17,22 @@ whole_same p q tree kept h = subst (λ (k : Mode × Rules × List CodePoint × �
 end_paced : (from to : Cursor) (old new : ℕ) → IsTurnPaced old new from to → length (rest to) ≡ 0 → new ≤ old + 7 * length from.units + 8
 end_paced from to old new pace none = omega (arith, none, pace.1, plain_within (rest to), length-drop from.place from.units)
 
+-- something is left
+has_more : (p : Parse) → IsUnderWay p → (length (rest p.reader) ≡ 0 → ⊥) → HasMore p
+has_more p h some = record { under_way = h; left = omega (arith, some, length-drop p.reader.place p.reader.units, h.parsing.within) }
+
 pub loop-parse-init : goal.loop-parse-init
 loop-parse-init g c = record { under_way = c.requires.under_way; kept = refl; pace = (omega arith, omega arith) }
 
-pub turn-requires : goal.turn-requires
-turn-requires g c =
-    let r = c.loop-parse.parse.reader in
-    let it = c.loop-parse.invariant in
-    let some : length (drop r.place r.units) ≡ 0 → ⊥ = search rules in
-    record { under_way = it.under_way; left = omega (arith, some, length-drop r.place r.units, it.under_way.parsing.within) }
+pub take_common-requires : goal.take_common-requires
+take_common-requires g c = has_more c.loop-parse.parse c.loop-parse.invariant.under_way (search rules)
 
-pub loop-parse-smaller : goal.loop-parse-smaller
-loop-parse-smaller g c =
-    let it = c.in_ok-turn.ensures.turned in
-    omega (arith, it.moved, it.under_way.parsing.within, ap (λ (k : Mode × Rules × List CodePoint × ℕ × ℕ × State). length k.2) it.kept)
-
-pub loop-parse-preserved : goal.loop-parse-preserved
-loop-parse-preserved g c =
-    let it = c.in_ok-turn.ensures.turned in
-    let was = c.loop-parse.invariant in
-    record {
-      under_way = it.under_way;
-      kept = it.kept ∙ was.kept;
-      pace = turns_paced c.args.parse.reader c.loop-parse.parse.reader c.turn.new.self.reader (g.C.Counter.count c.args.steps.now) (g.C.Counter.count c.loop-parse.steps) (g.C.Counter.count c.turn.new.steps) was.pace c.in_ok-turn.ensures.steps;
-    }
-
-pub returns-in_err-turn-clause-refused : goal.returns-in_err-turn-clause-refused
-returns-in_err-turn-clause-refused g c =
-    let fault = c.in_err-turn.field-0.0 in
-    let refused : RefusesText c.args.parse fault = refuses_same c.args.parse c.loop-parse.parse fault c.loop-parse.invariant.kept c.in_err-turn.ensures.refused in
-    search rules
+pub take_token-requires : goal.take_token-requires
+take_token-requires g c =
+    let it = c.in_ok-take_common in
+    let none : it.field-0 ≡ false = cc in
+    let same : c.take_common.new.self ≡ c.loop-parse.parse = rw none at it.ensures.turned in
+    subst HasMore (sym same) (has_more c.loop-parse.parse c.loop-parse.invariant.under_way (search rules))
 
 pub returns-then-not-is_whole-clause-refused : goal.returns-then-not-is_whole-clause-refused
 returns-then-not-is_whole-clause-refused g c =

@@ -2,8 +2,8 @@ use Rattle.std.proofs.Common.{subst, sym}
 use Rattle.rx_parser.proofs.Common.{Open, Parse, StandsNext, IsGroupKindOf}
 use Rattle.rx_parser.proofs.turn.Parse.open.Goals as goal
 
-pub open_as-requires-clause-found : goal.open_as-requires-clause-found
-open_as-requires-clause-found g c =
+pub open_group-requires-clause-found : goal.open_group-requires-clause-found
+open_group-requires-clause-found g c =
     let begun = c.in_ok-group_kind in
     let same = sym begun.ensures.kept in (
       c.args.opener,

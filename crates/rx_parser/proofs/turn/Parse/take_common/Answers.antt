@@ -6,4 +6,4 @@ pub plain_run-requires-clause-before : goal.plain_run-requires-clause-before
 plain_run-requires-clause-before g c = before c.requires
 
 pub returns-clause-turned : goal.returns-clause-turned
-returns-clause-turned g c = λ _. has_turned c.requires c.in_ok-plain_run.ensures.turned refl refl
+returns-clause-turned g c = has_turned c.requires c.in_ok-plain_run.ensures.turned refl refl

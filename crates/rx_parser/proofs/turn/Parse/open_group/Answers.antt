@@ -2,7 +2,7 @@ use Rattle.std.proofs.Common.{refl}
 use Rattle.rx_parser.proofs.Common.{text_names}
 use Rattle.rx_parser.proofs.Steps.{grown_on_ok}
 use Rattle.rx_parser.proofs.Turns.{before, has_turned, open_turned, passed}
-use Rattle.rx_parser.proofs.turn.Parse.open_as.Goals as goal
+use Rattle.rx_parser.proofs.turn.Parse.open_group.Goals as goal
 
 pub returns-clause-turned : goal.returns-clause-turned
 returns-clause-turned g c =

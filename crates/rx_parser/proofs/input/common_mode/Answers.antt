@@ -1,6 +1,6 @@
 use Rattle.std.proofs.Common.{refl}
-use Rattle.rx_parser.proofs.LoneFlags.{own_characters}
-use Rattle.rx_parser.proofs.input.lone_mode.Goals as goal
+use Rattle.rx_parser.proofs.CommonFlags.{own_characters}
+use Rattle.rx_parser.proofs.input.common_mode.Goals as goal
 
 pub returns-in-empty : goal.returns-in-empty
 returns-in-empty c = rw c.in-Literal.is (own_characters c.args.flags.now _ c.in-empty.is refl)
