@@ -163,7 +163,7 @@ pub fn write_leaves<'a, W: TextSink>(
     }
 }
 
-/// Writes the characters before the first term that is not a character which is spelled as itself, and answers what is left.
+/// Writes the characters at the front that are spelled as themselves, and answers what is left.
 #[inline(always)]
 fn write_plain_characters<'a, W: TextSink>(
     sink: &mut W,

@@ -207,7 +207,7 @@ fn write_opening<W: TextSink>(
     }
 }
 
-/// The tasks that are left where what a term begins with was written: what nests in it, what ends it, and what is after it.
+/// The tasks that are left once what a term begins with is written: what nests in it, what ends it, and what is after it.
 #[inline(always)]
 #[tactic(auto, using(rx_ast::proofs::Equations::mirrors, rx_ast::proofs::Sizes::sizes))]
 fn tasks_after<'a>(after_reference: bool, term: &'a Term, after: Body<'a>) -> Next<Task<'a>>

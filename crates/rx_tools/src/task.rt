@@ -22,8 +22,8 @@ pub struct Body<'a> {
 }
 
 /// What is still to be written of a pattern: what ends a term, and the body after the term.
-// The fields stand in this order so that they take more than 64 bytes: a smaller struct, as one in a struct, is moved with the bytes
-// between its fields.
+// In this order the fields take more than 64 bytes. The compiler copies a smaller struct, and a struct within a struct, as a block
+// with its padding, and a larger one field by field.
 #[derive(Clone, Copy)]
 pub struct Task<'a> {
     /// Whether the term is a group that is to be closed.
