@@ -1,6 +1,7 @@
 ghost use Rattle.std.specs.Prelude.{◌<◌, ◌^◌, length};
 
 use rx_base::{List, Text};
+use rx_rows::short;
 use rx_units::{
     CR, CodePoint, EscapeKind, LF, LS, PS, Reader, handle_code_point, is_line_terminator,
     is_non_escape_character, is_single_escape_character, parse_regexp_literal,
@@ -102,6 +103,49 @@ fn runs_are_eaten_whole(rt: HostRuntime) -> Result<(), Fail> {
     assert!(rt; !reader.eat4('a', 'b', 'c', 'e'));
     assert!(rt; reader.eat4('a', 'b', 'c', 'd'));
     assert_eq!(rt; reader.offset(), 7);
+    Ok(())
+}
+
+#[test]
+fn ascii_from_its_bytes(rt: HostRuntime) -> Result<(), Fail> {
+    let text = short("a-\u{7F}")?;
+    if !text.is_ascii() {
+        return Err(Fail::new("past ASCII"));
+    }
+    let mut reader = Reader::of_ascii(text);
+    assert_eq!(rt; reader.peek(), Some(0x61));
+    assert!(rt; !reader.eat('-'));
+    assert!(rt; reader.eat('a'));
+    assert_eq!(rt; reader.checkpoint(), (1, 1));
+    let ahead = reader.ahead();
+    assert_eq!(rt; ahead.len(), 2);
+    assert_eq!(rt; ahead.first(), Some(0x2D));
+    assert_eq!(rt; ahead.escape_kind(), EscapeKind::None);
+    reader.skip(7);
+    assert_eq!(rt; reader.offset(), 3);
+    assert!(rt; reader.ahead().is_empty());
+    Ok(())
+}
+
+#[test]
+fn units_ahead(rt: HostRuntime) -> Result<(), Fail> {
+    let mut reader = Reader::initialize(rt.alloc(), "é\u{1F600}b", true, false)?;
+    reader.advance();
+    let ahead = reader.ahead();
+    assert_eq!(rt; ahead.items().len(), 2);
+    if ahead.len() < 2 {
+        return Err(Fail::new("too few"));
+    }
+    assert_eq!(rt; ahead.end_of(1), 6);
+    assert_eq!(rt; ahead.end_of(2), 7);
+    assert_eq!(rt; ahead.from(1).first(), Some(0x62));
+    assert_eq!(rt; ahead.front(1).len(), 1);
+    assert!(rt; ahead.after('b').is_none());
+    let Some((value, following)) = ahead.split_first() else {
+        return Err(Fail::new("no unit"));
+    };
+    assert_eq!(rt; value, 0x1F600);
+    assert_eq!(rt; following.after('b').map(|it| it.len()), Some(0));
     Ok(())
 }
 

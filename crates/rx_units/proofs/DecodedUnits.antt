@@ -1,24 +1,11 @@
 -- What holds of the units to which a quoted text is decoded: where they end, and how large their values are.
 use Rattle.std.proofs.Common.{◌≡◌, ℕ, ◌+◌, ◌<◌, ◌≤◌, Bool, true, false, ◌&&◌, ◌==◌, Option, Some, None, append-nil, List, [], ◌∷◌, ◌++◌, length, refl, sym, ap, ◌∙◌, subst, arith, append_assoc, length-append}
-use Rattle.std.proofs.lemmas.List.Elements.{All-append, All-nil, All-tail}
-use Rattle.std.proofs.lemmas.Str.{IsCharBoundary-at_seam, chars-encodes, encode_ascii, encodes-append, encodes-chars, scalars-chars}
-use Rattle.std.specs.Prelude.{All}
-use Rattle.std.specs.Str.{IsCharBoundary, IsUtf8, chars}
-use lib.Utf8.{encode, encodes, scalar, scalars}
-use Rattle.rx_units.specs.declared.code_point.CodePoint.{CodePoint}
+use Rattle.rx_units.proofs.Common.{All-append, All-nil, All-tail, IsCharBoundary-at_seam, chars-encodes, encode_ascii, encodes-append, encodes-chars, scalars-chars, All, IsCharBoundary, IsUtf8, chars, encode, encodes, scalar, scalars, CodePoint, Options, Element, Writing, Literal, AreEnds}
+use Rattle.rx_units.proofs.Common.{quote_of, code_points, element_units, given_value, kind_of, text_units, value_units, IsReached, Leads, Place, next_place, byte_count, no_element, one_more, place_after_opening, Decodes, plain_options, both, either_way}
 use Rattle.rx_units.specs.declared.code_point.EscapeKind.{EscapeKind}
-use Rattle.rx_units.specs.declared.options.Options.{Options}
-use Rattle.rx_units.specs.declared.quoted_text.element.Element.{Element}
-use Rattle.rx_units.specs.declared.quoted_text.element.Writing.{Writing}
 use Rattle.rx_units.specs.declared.quoted_text.element.Writing.TheVariants as writing
-use Rattle.rx_units.specs.declared.quoted_text.literal.Literal.{Literal}
 use Rattle.rx_units.specs.declared.quoted_text.literal.Literal.TheVariants as literals
 use Rattle.rx_units.specs.declared.string_literal_parser.StringLiteralKind.TheVariants as quotes
-use Rattle.rx_units.specs.Cursor.{AreEnds}
-use Rattle.rx_units.specs.Quoted.Elements.{quote_of}
-use Rattle.rx_units.specs.Quoted.Values.{code_points, element_units, given_value, kind_of, text_units, value_units}
-use Rattle.rx_units.specs.Quoted.Texts.{IsReached, Leads, Place, next_place, byte_count, no_element, one_more, place_after_opening}
-use Rattle.rx_units.specs.Sources.{Decodes, plain_options}
 use Rattle.rx_units.specs.Units.{character_units, end_of}
 use Rattle.rx_units.proofs.CodePoints.{AreCodePoints, character_code_points, character_narrow}
 use Rattle.rx_units.proofs.Ends.{end_more, ends_more}
@@ -26,7 +13,6 @@ use Rattle.rx_units.proofs.Quoted.Fronts.{spelled_front}
 use Rattle.rx_units.proofs.Quoted.Turns.{onward}
 use Rattle.rx_units.proofs.Quoted.Widths.{AreCharacters, byte_text, taken}
 use Rattle.rx_units.proofs.Quoted.Pairs.{all_joined, ends_joined, pair_small}
-use Rattle.rx_units.proofs.Choices.{both, either_way}
 
 abbrev IsSmall : Option ℕ → Type 0
 IsSmall None = Unit {0}
@@ -35,11 +21,7 @@ IsSmall (Some value) = value ≤ 0x10FFFF
 given_small : (standard : Bool) (how : Writing) (value : ℕ) → value ≤ 0x10FFFF → IsSmall (given_value standard how value)
 given_small standard writing.LineContinuation value h = either_way IsSmall standard None (Some value) tt h
 given_small standard writing.LineTerminator value h = either_way (λ n. n ≤ 0x10FFFF) (standard && value == 13) 10 value (omega arith) h
-given_small standard writing.Plain value h = h
-given_small standard writing.Hexadecimal value h = h
-given_small standard writing.Unicode value h = h
-given_small standard (writing.Legacy what) value h = h
-given_small standard writing.NotEscape value h = h
+given_small standard how value h = h
 
 -- What holds of the units of each character holds of all.
 module _ (l : Literal) (o : Options) (P : CodePoint → Type 0) (each : (start end c : ℕ) (k : EscapeKind) → c ≤ 0x10FFFF → All P (character_units o.combine_surrogate_pair start end c k)) where

@@ -1,8 +1,10 @@
+pub mod Common
 pub mod Choices
 pub mod Digits
 pub mod OctalEscapes
 pub mod Literals
 pub mod Offsets
+pub mod UnitLists
 pub mod Ends
 pub mod CodePoints
 pub mod Sequences

@@ -1,13 +1,12 @@
 -- The units of a literal, character by character.
-use Rattle.std.proofs.Common.{◌≡◌, ℕ, suc, ◌+◌, ◌%◌, ◌^◌, ◌<◌, Bool, true, false, cond, List, [], ◌∷◌, ◌++◌, length, get_or, drop, take, refl, sym, ap, ◌∙◌, append_assoc, length-append, arith}
+use Rattle.std.proofs.Common.{◌≡◌, ℕ, suc, ◌+◌, ◌%◌, ◌^◌, ◌<◌, Bool, true, false, cond, List, [], ◌∷◌, ◌++◌, length, get_or, drop, refl, sym, ap, ◌∙◌, append_assoc, length-append, arith}
 use Rattle.std.proofs.Math.Nat.{mod-eq_of_lt}
 use Rattle.std.proofs.lemmas.Bool.{lt-ltb}
-use Rattle.std.proofs.lemmas.List.{at_drop_more, length-take-le, take_more}
+use Rattle.std.proofs.lemmas.List.{at_drop_more}
 use Rattle.std.proofs.lemmas.Str.{len_utf8_ascii, length-encode}
 use lib.Utf8.{encode, encodes}
 use Rattle.std.specs.Char.{len_utf8}
 use Rattle.std.specs.Str.{IsAscii}
-use Rattle.rx_base.specs.declared.span.Span.{Span}
 use Rattle.rx_units.specs.declared.code_point.CodePoint.{CodePoint}
 use Rattle.rx_units.specs.declared.code_point.EscapeKind.TheVariants as kind
 use Rattle.rx_units.specs.Bytes.{byte_units}
@@ -48,21 +47,3 @@ byte_units_literal joined at (b ∷ bs) fits ascii =
     ∙ ap (λ us. unit at (at + 1) b kind.None ∷ us) rest
     ∙ ap (λ us. us ++ literal_units joined (at + 1) bs) (sym (ascii_unit joined at (at + 1) b (ascii 0)))
     ∙ ap (λ (n : ℕ). character_units joined at (at + n) b kind.None ++ literal_units joined (at + n) bs) (sym (len_utf8_ascii b (ascii 0)))
-
-byte_units_push : (at : ℕ) (bs : List ℕ) (b : ℕ) → byte_units at (bs ++ b ∷ []) ≡ byte_units at bs ++ unit (at + length bs) ((at + length bs + 1) % 2 ^ 32) b kind.None ∷ []
-byte_units_push at [] b = ap (λ n. unit n ((n + 1) % 2 ^ 32) b kind.None ∷ []) (omega arith)
-byte_units_push at (c ∷ bs) b =
-    let here : at + 1 + length bs ≡ at + suc (length bs) = omega arith in
-    ap (λ us. unit at ((at + 1) % 2 ^ 32) c kind.None ∷ us) (byte_units_push (at + 1) bs b ∙ ap (λ n. byte_units (at + 1) bs ++ unit n ((n + 1) % 2 ^ 32) b kind.None ∷ []) here)
-
--- one byte more is read
-pub byte_units_turn : (at n d start next : ℕ) (bytes : List ℕ) (span : Span) (old new : List CodePoint) → n < length bytes → at + n ≡ start → n + 1 ≡ next
-    → span ≡ record { start = start; end = (start + 1) % 2 ^ 32 } → old ≡ byte_units at (take n bytes) → new ≡ old ++ record { span = span; value = get_or bytes n d; escape_kind = kind.None } ∷ []
-    → new ≡ byte_units at (take next bytes)
-byte_units_turn at n d start next bytes span old new inside start_is next_is span_is old_is new_is =
-    let b = get_or bytes n d in
-    let place : at + length (take n bytes) ≡ start = ap (λ k. at + k) (length-take-le n bytes (omega arith)) ∙ start_is in
-    new_is ∙ ap (λ us. us ++ record { span = span; value = b; escape_kind = kind.None } ∷ []) old_is
-    ∙ ap (λ s. let u : CodePoint = record { span = s; value = b; escape_kind = kind.None } in byte_units at (take n bytes) ++ u ∷ []) span_is
-    ∙ ap (λ k. byte_units at (take n bytes) ++ unit k ((k + 1) % 2 ^ 32) b kind.None ∷ []) (sym place)
-    ∙ sym (byte_units_push at (take n bytes) b) ∙ ap (byte_units at) (sym (take_more bytes n d inside)) ∙ ap (λ k. byte_units at (take k bytes)) next_is

@@ -1,23 +1,15 @@
 -- A quoted text is decoded in one way, or it has one fault.
 use Rattle.std.proofs.Common.{◌≡◌, ℕ, Bool, true, false, List, refl, sym, ap, ◌∙◌, subst, ◌⊎◌, inl, inr}
-use Rattle.rx_units.specs.declared.code_point.CodePoint.{CodePoint}
-use Rattle.rx_units.specs.declared.options.Options.{Options}
-use Rattle.rx_units.specs.declared.quoted_text.literal.Literal.{Literal}
+use Rattle.rx_units.proofs.Common.{CodePoint, Options, Literal, StringFault, TemplateFault, IsStringFault, IsTemplateFault, is_grave_accent, IsDecoded, Decodes, IsQuotedFault, of_string, of_template, plain_options, string_refusal, template_refusal, front_is}
 use Rattle.rx_units.specs.declared.quoted_text.literal.Literal.TheVariants as literals
 use Rattle.rx_units.specs.declared.reader_fault.ReaderFault.{ReaderFault}
 use Rattle.rx_units.specs.declared.reader_fault.ReaderFault.TheVariants as fault
-use Rattle.rx_units.specs.declared.string_literal_parser.StringFault.{StringFault}
 use Rattle.rx_units.specs.declared.string_literal_parser.StringFault.TheVariants as string_fault
 use Rattle.rx_units.specs.declared.string_literal_parser.StringLiteralKind.TheVariants as quotes
-use Rattle.rx_units.specs.declared.template_literal_parser.TemplateFault.{TemplateFault}
 use Rattle.rx_units.specs.declared.template_literal_parser.TemplateFault.TheVariants as template_fault
-use Rattle.rx_units.specs.Quoted.Faults.{IsStringFault, IsTemplateFault, is_grave_accent}
-use Rattle.rx_units.specs.Quoted.Texts.{IsDecoded}
-use Rattle.rx_units.specs.Sources.{Decodes, IsQuotedFault, of_string, of_template, plain_options, string_refusal, template_refusal}
 use Rattle.rx_units.proofs.Quoted.Exactness as strings
 use Rattle.rx_units.proofs.Quoted.Rows.{one_decoding}
 use Rattle.rx_units.proofs.Quoted.Stops.{one_literal}
-use Rattle.rx_units.specs.Digits.{front_is}
 use Rattle.rx_units.proofs.Quoted.TemplateExactness as templates
 
 -- A text is decoded in one way, in whatever quotes it stands.
@@ -56,18 +48,11 @@ one_quoted_fault {standard} {joined} {text} (of_template {what} h x) (of_templat
 module _ (standard joined : Bool) (text : List ℕ) where
   pub string_stands : (f : StringFault) → front_is is_grave_accent text ≡ false → (f ≡ string_fault.OutOfMemory) ⊎ IsStringFault (plain_options standard joined) text f → (string_refusal f ≡ fault.OutOfMemory) ⊎ IsQuotedFault standard joined text (string_refusal f)
   string_stands string_fault.OutOfMemory h s = inl refl
-  string_stands (string_fault.InvalidInput span) h s = elim s [ inl m ↦ absurd (let no : ⊥ = cc m in no) | inr x ↦ inr (of_string h x) ]
-  string_stands (string_fault.LegacyInStrictMode what span) h s = elim s [ inl m ↦ absurd (let no : ⊥ = cc m in no) | inr x ↦ inr (of_string h x) ]
-  string_stands (string_fault.TooLargeUnicodeEscapeSequence span) h s = elim s [ inl m ↦ absurd (let no : ⊥ = cc m in no) | inr x ↦ inr (of_string h x) ]
+  string_stands f h s = elim s [ inl m ↦ absurd (let no : ⊥ = cc m in no) | inr x ↦ inr (of_string h x) ]
 
   pub template_stands : (f : TemplateFault) → front_is is_grave_accent text ≡ true → (f ≡ template_fault.OutOfMemory) ⊎ IsTemplateFault (plain_options standard joined) text f → (template_refusal f ≡ fault.OutOfMemory) ⊎ IsQuotedFault standard joined text (template_refusal f)
   template_stands template_fault.OutOfMemory h s = inl refl
-  template_stands (template_fault.InvalidInput span) h s = elim s [ inl m ↦ absurd (let no : ⊥ = cc m in no) | inr x ↦ inr (of_template h x) ]
-  template_stands (template_fault.TemplateSubstitution span) h s = elim s [ inl m ↦ absurd (let no : ⊥ = cc m in no) | inr x ↦ inr (of_template h x) ]
-  template_stands (template_fault.TooLargeUnicodeEscapeSequence span) h s = elim s [ inl m ↦ absurd (let no : ⊥ = cc m in no) | inr x ↦ inr (of_template h x) ]
-  template_stands (template_fault.InvalidHexEscape span) h s = elim s [ inl m ↦ absurd (let no : ⊥ = cc m in no) | inr x ↦ inr (of_template h x) ]
-  template_stands (template_fault.InvalidUnicodeEscape span) h s = elim s [ inl m ↦ absurd (let no : ⊥ = cc m in no) | inr x ↦ inr (of_template h x) ]
-  template_stands (template_fault.NotEscapeSequence span) h s = elim s [ inl m ↦ absurd (let no : ⊥ = cc m in no) | inr x ↦ inr (of_template h x) ]
+  template_stands f h s = elim s [ inl m ↦ absurd (let no : ⊥ = cc m in no) | inr x ↦ inr (of_template h x) ]
 
 -- Where a fault stands or memory ran out: for a text that is decoded it ran out, and for one with a fault that is the fault.
 pub memory_alone : {standard joined : Bool} {text : List ℕ} {f : ReaderFault} {us : List CodePoint} → (f ≡ fault.OutOfMemory) ⊎ IsQuotedFault standard joined text f → Decodes standard joined text us → f ≡ fault.OutOfMemory

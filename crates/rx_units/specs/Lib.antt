@@ -5,6 +5,7 @@ pub mod Digits
 pub mod OctalEscapes
 pub mod Pace
 pub mod Bytes
+pub mod Stored
 pub mod Sequences
 pub mod Quoted
 pub mod Sources

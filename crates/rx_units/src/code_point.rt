@@ -1,5 +1,3 @@
-ghost use Rattle.std.specs.Prelude.{◌≡◌, ◌≤◌, drop, length};
-
 use rx_base::Span;
 
 /// How a unit was written.
@@ -17,13 +15,4 @@ pub struct CodePoint {
     pub span: Span,
     pub value: u32,
     pub escape_kind: EscapeKind,
-}
-
-/// The units from a place on.
-#[inline(always)]
-pub fn tail(units: &[CodePoint], place: usize) -> &[CodePoint]
-    requires { place ≤ length units.now }
-    ensures { result.now ≡ drop place units.now }
-{
-    &units[place..]
 }

@@ -2,11 +2,11 @@ ghost use Rattle.std.specs.Prelude.{◌≡◌, ◌∷◌, [], if◌then◌else�
 ghost use Rattle.rx_units.specs.Cursor.{begins, move_on, rest};
 ghost use Rattle.rx_units.specs.Pace.{IsMove};
 
-use crate::Reader;
-use rx_base::Counter;
+use crate::{CodePoint, Reader, UnitSource};
+use rx_base::{Counter, List};
 
 /// The calls that move, with a counter to which one is added for each unit that they move over.
-impl<'a> Reader<'a> {
+impl<'a, S: UnitSource> Reader<'a, S> {
     /// Moves one place on, or does nothing at the end.
     #[inline]
     pub fn advance_counted<C: Counter>(&mut self, steps: &mut C)
@@ -22,7 +22,7 @@ impl<'a> Reader<'a> {
         ensures reader { self.new ≡ move_on count self.old }
         ensures steps { IsMove (C.count steps.old) (C.count steps.new) self.old self.new }
     {
-        steps.add(count.min(self.remaining_code_points().len()));
+        steps.add(count.min(self.ahead().len()));
         self.skip(count);
     }
 
@@ -37,7 +37,10 @@ impl<'a> Reader<'a> {
         steps.add(self.checkpoint().0 - place);
         is_eaten
     }
+}
 
+/// The same for the calls of a reader of a list, which only callers need.
+impl<'a> Reader<'a, List<CodePoint>> {
     /// Moves over both characters where they stand at the place one after the other, and says whether they do.
     /// For callers: no reader of these crates needs it.
     pub fn eat2_counted<C: Counter>(&mut self, ch: char, ch2: char, steps: &mut C) -> bool

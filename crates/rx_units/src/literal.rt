@@ -1,12 +1,11 @@
-ghost use Rattle.std.specs.Prelude.{◌≡◌, Bool, ◌+◌, ◌<◌, ◌≤◌, ◌^◌, ◌++◌, length, OnOk, OnErr, IfOk};
+ghost use Rattle.std.specs.Prelude.{◌≡◌, ◌+◌, ◌<◌, ◌≤◌, ◌^◌, ◌++◌, length, OnOk, OnErr, IfOk};
 ghost use Rattle.std.specs.Char.{len_utf8};
-ghost use Rattle.std.specs.Str.{IsAscii, chars};
-ghost use Rattle.rx_units.specs.Bytes.{byte_units};
+ghost use Rattle.std.specs.Str.{chars};
 ghost use Rattle.rx_units.specs.Units.{character_units, lead_of, literal_units, trail_of};
 
 use crate::{CodePoint, EscapeKind};
 use rx_base::{List, OutOfMemory, Span};
-use std::alloc::{AllocError, Global};
+use std::alloc::Global;
 
 const FIRST_LEAD: u32 = 0xD800;
 
@@ -77,9 +76,6 @@ pub fn parse_regexp_literal(
     requires { span_offset + length source_text.now < 2 ^ 32 }
     ensures { IfOk result (λ body. body ≡ literal_units combine_surrogate_pair span_offset (chars source_text.now)) }
 {
-    if source_text.is_ascii() {
-        return ascii_units(alloc, source_text.as_bytes(), span_offset);
-    }
     // A text has no more units than bytes.
     let mut body = List::with_capacity(alloc, source_text.len())?;
     let mut at = 0;
@@ -90,36 +86,6 @@ pub fn parse_regexp_literal(
         at = end;
     }
     Ok(body)
-}
-
-/// The units of ASCII text, which are its bytes, joined or not.
-fn ascii_units(
-    alloc: Global,
-    bytes: &[u8],
-    span_offset: u32,
-) -> Result<List<CodePoint>, OutOfMemory>
-    requires offset { span_offset + length bytes.now < 2 ^ 32 }
-    requires ascii { IsAscii bytes.now }
-    ensures { IfOk result (λ body. (joined : Bool) → body ≡ literal_units joined span_offset bytes.now) }
-{
-    Ok(List::from_vec(byte_units(alloc, bytes, span_offset)?))
-}
-
-/// Each byte as a unit.
-fn byte_units(alloc: Global, bytes: &[u8], span_offset: u32) -> Result<Vec<CodePoint>, AllocError>
-    requires { span_offset + length bytes.now < 2 ^ 32 }
-    ensures { IfOk result (λ units. units.items ≡ byte_units span_offset bytes.now) }
-{
-    let mut units = Vec::with_capacity(alloc, bytes.len())?;
-    for start in span_offset..span_offset + bytes.len() as u32 {
-        let byte = bytes[(start - span_offset) as usize];
-        units.push_reserved(CodePoint {
-            span: Span::new(start, start.wrapping_add(1)),
-            value: byte as u32,
-            escape_kind: EscapeKind::None,
-        });
-    }
-    Ok(units)
 }
 
 /// How many bytes a character takes. Most take one.

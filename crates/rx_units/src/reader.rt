@@ -1,5 +1,5 @@
-ghost use Rattle.std.specs.Prelude.{◌≡◌, ℕ, ◌∷◌, [], ◌<◌, ◌≤◌, ◌^◌, ◌↔◌, false, length, true, IfErr, IfOk, IsFalse, IsTrue, All, Any, List, MatchResult, ◌⊎◌, if◌then◌else◌, slice_range};
-ghost use Rattle.std.specs.Str.{IsCharBoundary, chars};
+ghost use Rattle.std.specs.Prelude.{◌≡◌, Bool, ℕ, ◌∷◌, [], ◌<◌, ◌≤◌, ◌^◌, ◌↔◌, false, length, true, IfErr, IfOk, IsFalse, IsTrue, All, Any, List, MatchResult, ◌⊎◌, if◌then◌else◌, slice_range};
+ghost use Rattle.std.specs.Str.{IsAscii, IsCharBoundary, chars};
 ghost use Rattle.rx_units.specs.Cursor.{AreEnds, IsOffset, begins, front, front_kind, move_on, offset_of, rest, second};
 ghost use Rattle.rx_units.specs.declared.code_point.CodePoint.{CodePoint as UnitValue};
 ghost use Rattle.rx_units.specs.declared.reader_fault.ReaderFault.{ReaderFault as FaultValue};
@@ -9,35 +9,35 @@ ghost use Rattle.rx_units.specs.Units.{literal_units, offset_at};
 ghost use Rattle.rx_units.specs.Digits.{front_is};
 
 use crate::{
-    CodePoint, EscapeKind, Options, ReaderFault, parse_regexp_literal, string_literal_parser,
-    template_literal_parser,
+    Ahead, CodePoint, EscapeKind, Options, ReaderFault, Unit, UnitSource, parse_regexp_literal,
+    string_literal_parser, template_literal_parser,
 };
 use rx_base::{List, OutOfMemory, Text};
 use std::alloc::Global;
 use std::marker::Model;
 
-/// The units of a source text, and a place between them. A checkpoint is a place and its offset in bytes.
+/// The units of a source text, and a place between them. A checkpoint is a place and its offset in bytes. `S` is what the units are read from, a list where it is not named.
 #[derive(Drop)]
-pub struct Reader<'a> {
+pub struct Reader<'a, S: UnitSource = List<CodePoint>> {
     source_text: &'a str,
-    units: List<CodePoint>,
+    units: S,
     index: usize,
     offset: u32,
     first: u32,
 }
 
-impl<'a> Model for Reader<'a> {
+impl<'a, S: UnitSource> Model for Reader<'a, S> {
     ghost use Rattle.rx_units.specs.Cursor.{IsSound, Cursor};
 
     ghost Value = { Cursor };
 
-    ghost view = { λ r. record { units = r.units; place = r.index; first = r.first; text = r.source_text.now } };
+    ghost view = { λ r. record { units = S.units r.units; place = r.index; first = r.first; text = r.source_text.now } };
 
     // Why: docs/DECISIONS.md, 22.
-    ghost invariant = { λ r. IsSound r.units r.index r.offset r.first r.source_text.now };
+    ghost invariant = { λ r. IsSound (S.units r.units) r.index r.offset r.first r.source_text.now };
 }
 
-impl<'a> Reader<'a> {
+impl<'a> Reader<'a, List<CodePoint>> {
     /// Reads the text of a literal, or one in quotes: a template where it begins with a grave accent, else a string. In unicode mode the units are code
     /// points; else a character past FFFF is two UTF-16 code units.
     pub fn initialize(
@@ -129,70 +129,23 @@ impl<'a> Reader<'a> {
         }
     }
 
-    /// The offset at the place, in bytes. No place before has a larger one.
+    /// The units from a checkpoint of this reader to the place.
+    pub fn code_points_since(&self, checkpoint: (usize, u32)) -> &[CodePoint]
+        requires place { checkpoint.0 ≤ self.now.place }
+        requires offset { checkpoint.1 ≡ offset_at self.now.first self.now.units checkpoint.0 }
+        ensures { result.now ≡ slice_range self.now.units checkpoint.0 self.now.place }
+    {
+        &self.units.as_slice()[checkpoint.0..self.index]
+    }
+
+    /// The units from the place to the end.
+    #[tactic(auto, using(crate::proofs::CodePoints::code_points_from))]
     #[inline]
-    pub fn offset(&self) -> u32
-        ensures value { result ≡ offset_of self.now }
-        ensures within { result ≤ length self.now.text }
-        ensures order { (place : ℕ) → place ≤ self.now.place → offset_at self.now.first self.now.units place ≤ result }
+    pub fn remaining_code_points(&self) -> &[CodePoint]
+        ensures units { result.now ≡ rest self.now }
+        ensures code_points { All (λ unit. unit.value ≤ 0x10FFFF) result.now }
     {
-        self.offset
-    }
-
-    /// The place and its offset, to come back to.
-    pub fn checkpoint(&self) -> (usize, u32)
-        ensures value { result ≡ (self.now.place, offset_of self.now) }
-        ensures within { self.now.place ≤ length self.now.units }
-    {
-        (self.index, self.offset)
-    }
-
-    /// Moves to a checkpoint of this reader, back or on.
-    pub fn rewind(&mut self, checkpoint: (usize, u32))
-        requires place { checkpoint.0 ≤ length self.old.units }
-        requires offset { checkpoint.1 ≡ offset_at self.old.first self.old.units checkpoint.0 }
-        ensures { self.new ≡ record self.old { place = checkpoint.0 } }
-    {
-        self.index = checkpoint.0;
-        self.offset = checkpoint.1;
-    }
-
-    /// Moves one place on, or does nothing at the end.
-    #[tactic(auto, using(crate::proofs::Offsets::end_of_take))]
-    #[inline]
-    pub fn advance(&mut self)
-        ensures { self.new ≡ move_on 1 self.old }
-    {
-        if self.index < self.units.len() {
-            let place = self.index + 1;
-            self.offset = self.units.as_slice()[place - 1].span.end;
-            self.index = place;
-        }
-    }
-
-    /// Moves n places on, or to the end where fewer are left.
-    #[tactic(auto, using(crate::proofs::Offsets::end_of_take))]
-    #[inline]
-    pub fn skip(&mut self, count: usize)
-        ensures { self.new ≡ move_on count self.old }
-    {
-        let left = self.units.len() - self.index;
-        let place = self.index + count.min(left);
-        if place > self.index {
-            self.offset = self.units.as_slice()[place - 1].span.end;
-            self.index = place;
-        }
-    }
-
-    /// The value of the unit at the place.
-    #[inline]
-    pub fn peek(&self) -> Option<u32>
-        ensures { result ≡ front (rest self.now) }
-    {
-        match self.remaining_code_points() {
-            [unit, ..] => Some(unit.value),
-            _ => None,
-        }
+        &self.units.as_slice()[self.index..]
     }
 
     /// The value of the unit after the one at the place.
@@ -221,18 +174,6 @@ impl<'a> Reader<'a> {
     {
         let units = self.units.as_slice();
         units.iter().any(|unit| unit.value == ch as u32)
-    }
-
-    /// Moves over the character where it stands at the place, and says whether it does.
-    pub fn eat(&mut self, ch: char) -> bool
-        ensures value { result ≡ begins (ch ∷ []) (rest self.old) }
-        ensures reader { self.new ≡ (if result then move_on 1 self.old else self.old) }
-    {
-        if self.peek() != Some(ch as u32) {
-            return false;
-        }
-        self.advance();
-        true
     }
 
     /// Moves over both characters where they stand at the place one after the other, and says whether they do.
@@ -283,25 +224,6 @@ impl<'a> Reader<'a> {
         true
     }
 
-    /// The units from a checkpoint of this reader to the place.
-    pub fn code_points_since(&self, checkpoint: (usize, u32)) -> &[CodePoint]
-        requires place { checkpoint.0 ≤ self.now.place }
-        requires offset { checkpoint.1 ≡ offset_at self.now.first self.now.units checkpoint.0 }
-        ensures { result.now ≡ slice_range self.now.units checkpoint.0 self.now.place }
-    {
-        &self.units.as_slice()[checkpoint.0..self.index]
-    }
-
-    /// The units from the place to the end.
-    #[tactic(auto, using(crate::proofs::CodePoints::code_points_from))]
-    #[inline]
-    pub fn remaining_code_points(&self) -> &[CodePoint]
-        ensures units { result.now ≡ rest self.now }
-        ensures code_points { All (λ unit. unit.value ≤ 0x10FFFF) result.now }
-    {
-        &self.units.as_slice()[self.index..]
-    }
-
     /// The source text between two offsets, in bytes.
     pub fn str(&self, alloc: Global, start: u32, end: u32) -> Result<Text, OutOfMemory>
         requires from { IsOffset self.now start }
@@ -311,6 +233,107 @@ impl<'a> Reader<'a> {
     {
         let part = &self.source_text[start as usize..end as usize];
         Text::from_str(alloc, part)
+    }
+}
+
+impl<'a> Reader<'a, &'a [u8]> {
+    /// Reads the text of a literal in ASCII, and takes no memory. Its units are its bytes: each is a code point, and a UTF-16 code unit too (RegExpInitialize, ECMA-262, 22.2.3.3).
+    pub fn of_ascii(source_text: &'a str) -> Reader<'a, &'a [u8]>
+        requires short { length source_text.now < 2 ^ 32 }
+        requires ascii { IsAscii source_text.now }
+        ensures { (joined : Bool) → result ≡ record { units = literal_units joined 0 (chars source_text.now); place = 0; first = 0; text = source_text.now } }
+    {
+        Reader {
+            source_text,
+            units: source_text.as_bytes(),
+            index: 0,
+            offset: 0,
+            first: 0,
+        }
+    }
+}
+
+impl<'a, S: UnitSource> Reader<'a, S> {
+    /// The offset at the place, in bytes. No place before has a larger one.
+    #[inline]
+    pub fn offset(&self) -> u32
+        ensures value { result ≡ offset_of self.now }
+        ensures within { result ≤ length self.now.text }
+        ensures order { (place : ℕ) → place ≤ self.now.place → offset_at self.now.first self.now.units place ≤ result }
+    {
+        self.offset
+    }
+
+    /// The place and its offset, to come back to.
+    pub fn checkpoint(&self) -> (usize, u32)
+        ensures value { result ≡ (self.now.place, offset_of self.now) }
+        ensures within { self.now.place ≤ length self.now.units }
+    {
+        (self.index, self.offset)
+    }
+
+    /// Moves to a checkpoint of this reader, back or on.
+    pub fn rewind(&mut self, checkpoint: (usize, u32))
+        requires place { checkpoint.0 ≤ length self.old.units }
+        requires offset { checkpoint.1 ≡ offset_at self.old.first self.old.units checkpoint.0 }
+        ensures { self.new ≡ record self.old { place = checkpoint.0 } }
+    {
+        self.index = checkpoint.0;
+        self.offset = checkpoint.1;
+    }
+
+    /// Moves one place on, or does nothing at the end.
+    #[inline]
+    pub fn advance(&mut self)
+        ensures { self.new ≡ move_on 1 self.old }
+    {
+        self.skip(1);
+    }
+
+    /// Moves n places on, or to the end where fewer are left.
+    #[inline]
+    pub fn skip(&mut self, count: usize)
+        ensures { self.new ≡ move_on count self.old }
+    {
+        let ahead = self.ahead();
+        let moved = count.min(ahead.len());
+        if moved > 0 {
+            let end = ahead.end_of(moved);
+            self.offset = end;
+            self.index += moved;
+        }
+    }
+
+    /// The value of the unit at the place.
+    #[inline]
+    pub fn peek(&self) -> Option<u32>
+        ensures { result ≡ front (rest self.now) }
+    {
+        self.ahead().first()
+    }
+
+    /// Moves over the character where it stands at the place, and says whether it does.
+    pub fn eat(&mut self, ch: char) -> bool
+        ensures value { result ≡ begins (ch ∷ []) (rest self.old) }
+        ensures reader { self.new ≡ (if result then move_on 1 self.old else self.old) }
+    {
+        if self.peek() != Some(ch as u32) {
+            return false;
+        }
+        self.advance();
+        true
+    }
+
+    /// The units from the place to the end.
+    #[tactic(auto, using(crate::proofs::CodePoints::code_points_from))]
+    #[inline(always)]
+    pub fn ahead(&self) -> Ahead<'_, S::Unit>
+        ensures units { result ≡ rest self.now }
+        ensures code_points { All (λ unit. unit.value ≤ 0x10FFFF) result }
+        ensures within { self.now.place ≤ length self.now.units }
+        ensures short { length self.now.units < 2 ^ 63 }
+    {
+        self.units.all().from(self.index)
     }
 }
 

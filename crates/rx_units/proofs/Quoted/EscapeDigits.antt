@@ -1,15 +1,8 @@
 -- Digits after a backslash that are no null: where they are read.
 use Rattle.std.proofs.Common.{◌≡◌, ℕ, ◌==◌, Bool, true, false, not, ◌&&◌, List, [], ◌∷◌, Option, Some, None, refl, sym, ap, ◌∙◌, arith, inl, inr}
-use Rattle.std.proofs.lemmas.Bool.Decides.{nat_tests}
-use Rattle.std.proofs.lemmas.Bool.{cond-true, cond-false}
-use Rattle.rx_units.specs.Characters.{is_line_terminator}
+use Rattle.rx_units.proofs.Common.{nat_tests, cond-true, cond-false, is_line_terminator, is_line_feed, single_escape_value, EscapeRead, escaped, digit, four_at, escape_after, escape_at, front_is, is_decimal_digit, chosen, either_way, told_apart}
 use Rattle.rx_units.specs.declared.quoted_text.element.Writing.TheVariants as writing
-use Rattle.rx_units.specs.Quoted.Escapes.{is_line_feed, single_escape_value}
-use Rattle.rx_units.specs.Quoted.Fronts.{EscapeRead, escaped, digit, four_at, escape_after, escape_at}
-use Rattle.rx_units.proofs.Quoted.ReadForms.{hex_read, unicode_read}
-use Rattle.rx_units.specs.Digits.{front_is}
-use Rattle.rx_tables.specs.Characters.{is_decimal_digit}
-use Rattle.rx_units.proofs.Choices.{chosen, either_way}
+use Rattle.rx_units.proofs.Quoted.ReadForms.{escape_rows, hex_read, unicode_read}
 
 abbrev is_digit_read : EscapeRead → Bool
 is_digit_read digit = true
@@ -33,33 +26,14 @@ pub digit_escape : (c : ℕ) (rest : List ℕ) → is_decimal_digit c ≡ true �
 unfolding escape_at
 digit_escape c rest h k = ap (λ o. escape_after o c rest) (digit_no_single c h) ∙ cond-true _ _ _ h ∙ cond-false _ _ _ k
 
-no_digit : (r : EscapeRead) → r ≡ digit → NoDigit r → ⊥
-no_digit r h k = let e : true ≡ false = sym (ap is_digit_read h) ∙ k in cc e
-
 digit_after_found : (c : ℕ) (w : List ℕ) (o : Option ℕ) → escape_after o c w ≡ digit → BeginsWithDigit (c ∷ w)
 digit_after_found c w (Some x) h = absurd (let n : ⊥ = cc h in n)
-digit_after_found c w None h = elim (chosen (is_decimal_digit c) h) [
-  | inl p ↦ elim (chosen (c == 48 && not (front_is is_decimal_digit w)) p.1) [
-    | inl q ↦ absurd (let n : ⊥ = cc q.1 in n)
-    | inr q ↦ record {
-      c = c;
-      rest = w;
-      whole = refl;
-      is_digit = p.0;
-      no_null = q.0;
-    }
-  ]
-  | inr p ↦ elim (chosen (c == 120) p.1) [
-    | inl q ↦ absurd (no_digit _ q.1 (hex_read NoDigit (λ v k n. refl) (λ n. refl) w))
-    | inr q ↦ elim (chosen (c == 117) q.1) [
-      | inl r ↦ absurd (no_digit _ r.1 (unicode_read NoDigit (λ v k n. refl) (λ n. refl) (λ n. refl) (four_at w) w))
-      | inr r ↦ elim (chosen (is_line_terminator c) r.1) [
-        | inl s ↦ absurd (no_digit _ s.1 (either_way NoDigit (c == 13 && front_is is_line_feed w) (escaped 10 writing.LineContinuation 3) (escaped c writing.LineContinuation 2) refl refl))
-        | inr s ↦ absurd (let n : ⊥ = cc s.1 in n)
-      ]
-    ]
-  ]
-]
+digit_after_found c w None h =
+    escape_rows (λ r. r ≡ digit → BeginsWithDigit (c ∷ w)) c w (λ z e. absurd (let no : ⊥ = cc e in no)) (λ d z e. record { c = c; rest = w; whole = refl; is_digit = d; no_null = z })
+    (λ x e. absurd (told_apart is_digit_read e (hex_read NoDigit (λ v k n. refl) (λ n. refl) w) refl))
+    (λ u e. absurd (told_apart is_digit_read e (unicode_read NoDigit (λ v k n. refl) (λ n. refl) (λ n. refl) (four_at w) w) refl))
+    (λ l e. absurd (told_apart is_digit_read e (either_way NoDigit (c == 13 && front_is is_line_feed w) (escaped 10 writing.LineContinuation 3) (escaped c writing.LineContinuation 2) refl refl) refl))
+    (λ d x u l e. absurd (let no : ⊥ = cc e in no)) h
 
 pub digit_found : (w : List ℕ) → escape_at w ≡ digit → BeginsWithDigit w
 unfolding escape_at

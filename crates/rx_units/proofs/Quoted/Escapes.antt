@@ -1,18 +1,11 @@
 -- Escapes of strings and templates: what is spelled is read, and what is read is spelled.
 use Rattle.std.proofs.Common.{◌≡◌, ℕ, ◌+◌, ◌*◌, ◌==◌, Bool, true, false, cond, not, ◌&&◌, ◌||◌, List, [], ◌∷◌, ◌++◌, length, Option, Some, None, refl, sym, ap, ◌∙◌, subst, arith, inl, inr, lit<, append_assoc, length-append}
-use Rattle.std.proofs.lemmas.Bool.Decides.{nat_tests}
-use Rattle.std.proofs.lemmas.Bool.{eqb-true, cond-true, cond-false, not-true}
-use Rattle.std.proofs.lemmas.Option.{option_and_then_some}
-use Rattle.rx_tables.specs.Characters.{hex_digit_value, is_decimal_digit}
-use Rattle.rx_units.specs.Characters.{is_line_terminator, is_non_escape_character, is_single_escape_character}
-use Rattle.rx_units.specs.declared.quoted_text.element.Writing.{Writing}
+use Rattle.rx_units.proofs.Common.{nat_tests, eqb-true, cond-true, cond-false, not-true, option_and_then_some, hex_digit_value, is_decimal_digit, is_line_terminator, is_non_escape_character, is_single_escape_character, Element, Writing, is_line_feed, single_escape_value, SpellsTerminator}
+use Rattle.rx_units.proofs.Common.{alone, carriage_return, carriage_return_line_feed, SpellsEscape, single, non_escape, null, hexadecimal, four_digits, braced, continuation, EscapeRead, escaped, digit, passes, hex_pair, hex_at, four_at, digits_at, braces_at, unicode_after, line_after}
+use Rattle.rx_units.proofs.Common.{escape_after, escape_at, element, front_is, hex_number, PassesHex, chosen, either_way, both, told_apart}
 use Rattle.rx_units.specs.declared.quoted_text.element.Writing.TheVariants as writing
-use Rattle.rx_units.specs.Quoted.Escapes.{is_line_feed, single_escape_value, SpellsTerminator, alone, carriage_return, carriage_return_line_feed, SpellsEscape, single, non_escape, null, hexadecimal, four_digits, braced, continuation}
-use Rattle.rx_units.specs.Quoted.Fronts.{EscapeRead, escaped, digit, passes, hex_pair, hex_at, four_at, digits_at, braces_at, unicode_after, line_after, escape_after, escape_at}
 use Rattle.rx_units.proofs.Quoted.HexDigits.{Run, run_found, run_again, run_over, run_over_again}
-use Rattle.rx_units.proofs.Quoted.ReadForms.{hex_read}
-use Rattle.rx_units.specs.Digits.{front_is, hex_number, PassesHex}
-use Rattle.rx_units.proofs.Choices.{chosen, either_way, both}
+use Rattle.rx_units.proofs.Quoted.ReadForms.{escape_rows, hex_read}
 
 -- no row above that of other characters begins with the character
 record Others (c : ℕ) : Type 0 where
@@ -60,10 +53,8 @@ pub is_lone_line : (c : ℕ) → is_line_terminator c ≡ true → (c == 13) ≡
 is_lone_line c h k = grind (arith, nat_tests)
 
 pub brace_no_four : (w : List ℕ) → four_at (123 ∷ w) ≡ None
-brace_no_four [] = refl
-brace_no_four (a ∷ []) = refl
-brace_no_four (a ∷ b ∷ []) = refl
 brace_no_four (a ∷ b ∷ c ∷ w) = refl
+brace_no_four w = refl
 
 pair_read : (a b v : ℕ) → hex_number (a ∷ b ∷ []) ≡ Some v → hex_pair (hex_digit_value a) (hex_digit_value b) ≡ escaped v writing.Hexadecimal 4
 pair_read a b v h =
@@ -118,9 +109,8 @@ give {x} {v} {j} {k} {m} {n} s rest p l h = record {
 }
 
 hex_found_pair : (a b : ℕ) (w : List ℕ) (v : ℕ) (k : Writing) (n : ℕ) (o p : Option ℕ) → hex_digit_value a ≡ o → hex_digit_value b ≡ p → hex_pair o p ≡ escaped v k n → EscapeFront v k n (120 ∷ a ∷ b ∷ w)
-hex_found_pair a b w v k n None p e f h = absurd (let no : ⊥ = cc h in no)
-hex_found_pair a b w v k n (Some i) None e f h = absurd (let no : ⊥ = cc h in no)
 hex_found_pair a b w v k n (Some i) (Some j) e f h = give (120 ∷ a ∷ b ∷ []) w (hexadecimal (grind (arith, e, f))) refl h
+hex_found_pair a b w v k n o p e f h = absurd (let no : ⊥ = cc h in no)
 
 hex_found_one : (v : ℕ) (k : Writing) (n : ℕ) (o : Option ℕ) → hex_pair o None ≡ escaped v k n → ⊥
 hex_found_one v k n None h = cc h
@@ -152,11 +142,8 @@ braces_found (x ∷ xs) v k n h = elim (chosen (x == 123) h) [
 ]
 
 four_found : (w : List ℕ) (x v : ℕ) (k : Writing) (n : ℕ) → four_at w ≡ Some x → escaped x writing.Unicode 6 ≡ escaped v k n → EscapeFront v k n (117 ∷ w)
-four_found [] x v k n e h = absurd (let no : ⊥ = cc e in no)
-four_found (a ∷ []) x v k n e h = absurd (let no : ⊥ = cc e in no)
-four_found (a ∷ b ∷ []) x v k n e h = absurd (let no : ⊥ = cc e in no)
-four_found (a ∷ b ∷ c ∷ []) x v k n e h = absurd (let no : ⊥ = cc e in no)
 four_found (a ∷ b ∷ c ∷ d ∷ w) x v k n e h = give (117 ∷ a ∷ b ∷ c ∷ d ∷ []) w (four_digits e) refl h
+four_found w x v k n e h = absurd (let no : ⊥ = cc e in no)
 
 unicode_found : (w : List ℕ) (v : ℕ) (k : Writing) (n : ℕ) (o : Option ℕ) → four_at w ≡ o → unicode_after o w ≡ escaped v k n → EscapeFront v k n (117 ∷ w)
 unicode_found w v k n (Some x) e h = four_found w x v k n e h
@@ -215,22 +202,10 @@ null_next c w h = let q = both (c == 48) _ h in (eqb-true c 48 q.0, not-true (fr
 
 after_found : (c : ℕ) (w : List ℕ) (v : ℕ) (k : Writing) (n : ℕ) (o : Option ℕ) → single_escape_value c ≡ o → escape_after o c w ≡ escaped v k n → EscapeFront v k n (c ∷ w)
 after_found c w v k n (Some x) e h = give (c ∷ []) w (single e) refl h
-after_found c w v k n None e h = elim (chosen (is_decimal_digit c) h) [
-  | inl p ↦ elim (chosen (c == 48 && not (front_is is_decimal_digit w)) p.1) [
-    | inl q ↦ let z = null_next c w q.0 in rw z.0 (give (48 ∷ []) w (null z.1) refl q.1)
-    | inr q ↦ absurd (let no : ⊥ = cc q.1 in no)
-  ]
-  | inr p ↦ elim (chosen (c == 120) p.1) [
-    | inl q ↦ rw (eqb-true c 120 q.0) (hex_found w v k n q.1)
-    | inr q ↦ elim (chosen (c == 117) q.1) [
-      | inl r ↦ rw (eqb-true c 117 r.0) (unicode_found w v k n (four_at w) refl r.1)
-      | inr r ↦ elim (chosen (is_line_terminator c) r.1) [
-        | inl s ↦ line_found c w v k n s.0 s.1
-        | inr s ↦ give (c ∷ []) w (non_escape (is_other c e p.0 q.0 r.0 s.0)) refl s.1
-      ]
-    ]
-  ]
-]
+after_found c w v k n None e h =
+    escape_rows (λ r. r ≡ escaped v k n → EscapeFront v k n (c ∷ w)) c w (λ z h. let at = null_next c w z in rw at.0 (give (48 ∷ []) w (null at.1) refl h)) (λ d z h. absurd (let no : ⊥ = cc h in no))
+    (λ x h. rw x (hex_found w v k n h)) (λ u h. rw u (unicode_found w v k n (four_at w) refl h)) (λ l h. line_found c w v k n l h)
+    (λ d x u l h. give (c ∷ []) w (non_escape (is_other c e d x u l)) refl h) h
 
 -- read → spelled
 pub escape_spelled : (v : ℕ) (k : Writing) (n : ℕ) (w : List ℕ) → escape_at w ≡ escaped v k n → EscapeFront v k n w
@@ -250,9 +225,6 @@ is_passes _ = false
 
 abbrev NoPasses : EscapeRead → Type 0
 NoPasses r = is_passes r ≡ false
-
-no_passes : (r : EscapeRead) (n : ℕ) → NoPasses r → r ≡ passes n → ⊥
-no_passes r n h e = let k : true ≡ false = sym (ap is_passes e) ∙ h in cc k
 
 braces_pass : (w : List ℕ) (n : ℕ) → braces_at w ≡ passes n → Passes n (117 ∷ w)
 braces_pass [] n h = absurd (let no : ⊥ = cc h in no)
@@ -283,19 +255,11 @@ unicode_passes w n None h = braces_pass w n h
 
 after_passes : (c : ℕ) (w : List ℕ) (n : ℕ) (o : Option ℕ) → escape_after o c w ≡ passes n → Passes n (c ∷ w)
 after_passes c w n (Some x) h = absurd (let no : ⊥ = cc h in no)
-after_passes c w n None h = elim (chosen (is_decimal_digit c) h) [
-  | inl p ↦ absurd (no_passes _ n (either_way NoPasses (c == 48 && not (front_is is_decimal_digit w)) (escaped 0 writing.Plain 2) digit refl refl) p.1)
-  | inr p ↦ elim (chosen (c == 120) p.1) [
-    | inl q ↦ absurd (no_passes _ n (hex_read NoPasses (λ v k n. refl) (λ n. refl) w) q.1)
-    | inr q ↦ elim (chosen (c == 117) q.1) [
-      | inl r ↦ rw (eqb-true c 117 r.0) (unicode_passes w n (four_at w) r.1)
-      | inr r ↦ elim (chosen (is_line_terminator c) r.1) [
-        | inl s ↦ absurd (no_passes _ n (either_way NoPasses (c == 13 && front_is is_line_feed w) (escaped 10 writing.LineContinuation 3) (escaped c writing.LineContinuation 2) refl refl) s.1)
-        | inr s ↦ absurd (let no : ⊥ = cc s.1 in no)
-      ]
-    ]
-  ]
-]
+after_passes c w n None h =
+    escape_rows (λ r. r ≡ passes n → Passes n (c ∷ w)) c w (λ z e. absurd (let no : ⊥ = cc e in no)) (λ d z e. absurd (let no : ⊥ = cc e in no))
+    (λ x e. absurd (told_apart is_passes e (hex_read NoPasses (λ v k n. refl) (λ n. refl) w) refl)) (λ u e. rw u (unicode_passes w n (four_at w) e))
+    (λ l e. absurd (told_apart is_passes e (either_way NoPasses (c == 13 && front_is is_line_feed w) (escaped 10 writing.LineContinuation 3) (escaped c writing.LineContinuation 2) refl refl) refl))
+    (λ d x u l e. absurd (let no : ⊥ = cc e in no)) h
 
 pub passes_found : (n : ℕ) (w : List ℕ) → escape_at w ≡ passes n → Passes n w
 unfolding escape_at
@@ -310,3 +274,20 @@ passes_read w count p =
     ∙ ap (λ o. unicode_after o (123 ∷ (p.digits ++ p.next ∷ p.rest))) (brace_no_four (p.digits ++ p.next ∷ p.rest))
     ∙ run_over_again 0 0 p.digits p.next p.rest p.number p.digit p.number_is p.digit_is p.fits p.passes
     ∙ ap passes (omega (arith, p.count_is))
+
+-- an element that stands at the front, by how elements are spelled
+pub record ElementFront (spells_element : Element → List ℕ → List ℕ → Type 0) (e : Element) (n : ℕ) (us : List ℕ) : Type 0 where
+  pub spelled : List ℕ
+  pub rest : List ℕ
+  pub spells : spells_element e spelled rest
+  pub whole : us ≡ spelled ++ rest
+  pub count : length spelled ≡ n
+
+pub stands_first : {spells_element : Element → List ℕ → List ℕ → Type 0} {x e : Element} {m n : ℕ} (s rest : List ℕ) → spells_element x s rest → length s ≡ m → element x m ≡ element e n → ElementFront spells_element e n (s ++ rest)
+stands_first {spells_element} {x} {e} {m} {n} s rest p l h = record {
+  spelled = s;
+  rest = rest;
+  spells = subst (λ e. spells_element e s rest) (let same : x ≡ e = cc h in same) p;
+  whole = refl;
+  count = l ∙ (let same : m ≡ n = cc h in same);
+}

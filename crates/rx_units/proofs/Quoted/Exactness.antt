@@ -1,25 +1,14 @@
 -- At most one fault stands in a string, and none in one that is decoded.
 use Rattle.std.proofs.Common.{◌≡◌, ℕ, ◌+◌, true, false, List, [], ◌∷◌, ◌++◌, length, take, refl, sym, ap, ◌∙◌, arith, ◌⊎◌}
-use Rattle.std.specs.Prelude.{Result, IfOk, IfErr, MatchResult}
-use Rattle.std.proofs.Math.Seq.{take-append_seam}
-use Rattle.rx_units.specs.declared.code_point.CodePoint.{CodePoint}
-use Rattle.rx_units.specs.declared.quoted_text.element.Element.{Element}
-use Rattle.rx_units.specs.declared.quoted_text.element.Writing.{Writing}
+use Rattle.rx_units.proofs.Common.{Result, IfOk, IfErr, MatchResult, take-append_seam, CodePoint, Element, Writing, Options, LegacyKind, StringFault, StringLiteralKind, PassesHex, IsStringOf, string_element_fault, string_fault_at, quote_of, is_string_quote, NothingStands, IsStringFault}
+use Rattle.rx_units.proofs.Common.{unopened, followed, legacy, too_large, from_to, empty_at, Place, IsDecoded, byte_count, is_refused}
 use Rattle.rx_units.specs.declared.quoted_text.element.Writing.TheVariants as writing
 use Rattle.rx_units.specs.declared.quoted_text.literal.Literal.TheVariants as literals
-use Rattle.rx_units.specs.declared.options.Options.{Options}
-use Rattle.rx_units.specs.declared.string_literal_parser.LegacyKind.{LegacyKind}
-use Rattle.rx_units.specs.declared.string_literal_parser.StringFault.{StringFault}
 use Rattle.rx_units.specs.declared.string_literal_parser.StringFault.TheVariants as string_fault
 use Rattle.rx_units.specs.declared.string_literal_parser.StringLiteral.{StringLiteral}
-use Rattle.rx_units.specs.declared.string_literal_parser.StringLiteralKind.{StringLiteralKind}
 use Rattle.rx_units.specs.declared.string_literal_parser.StringLiteralKind.TheVariants as quotes
-use Rattle.rx_units.specs.Digits.{PassesHex}
-use Rattle.rx_units.specs.Quoted.Answers.{IsStringOf, string_element_fault, string_fault_at}
-use Rattle.rx_units.specs.Quoted.Elements.{quote_of}
-use Rattle.rx_units.specs.Quoted.Faults.{is_string_quote, NothingStands, IsStringFault, unopened, nothing, followed, legacy, too_large, from_to, empty_at}
+use Rattle.rx_units.specs.Quoted.Faults.{nothing}
 use Rattle.rx_units.specs.Quoted.Fronts as read
-use Rattle.rx_units.specs.Quoted.Texts.{Place, IsDecoded, byte_count, is_refused}
 use Rattle.rx_units.proofs.Quoted.Fronts.{spelled_front, front_spelled, quote_front, closer_found, passes_front}
 use Rattle.rx_units.proofs.Quoted.Outcomes.{large_found}
 use Rattle.rx_units.proofs.Quoted.Rows.{IsStuck}
@@ -38,11 +27,8 @@ module _ (k : StringLiteralKind) (p : Place) where
       → string_fault.InvalidInput (empty_at p.offset) ≡ fault_at r p
   nothing_fault (read.element e n) h s l = let f = front_spelled (literals.String k) p.rest e n h in absurd (s.no_element e f.spelled f.rest f.whole f.spells)
   nothing_fault read.closer h s l = let c = closer_found (literals.String k) p.rest h in absurd (s.no_quote c.0 c.1)
-  nothing_fault (read.nothing n) h s l = refl
-  nothing_fault read.substitution h s l = refl
-  nothing_fault (read.invalid_hex n) h s l = refl
-  nothing_fault (read.invalid_unicode n) h s l = refl
   nothing_fault (read.too_large n) h s l = let x = large_found k p.rest n h in absurd (l x.w x.count x.begins x.over)
+  nothing_fault r h s l = refl
 
   -- in strict mode code a legacy escape is no element that is allowed
   stuck_at_legacy : (o : Options) (e : Element) (n : ℕ) (what : LegacyKind) → read.front (literals.String k) p.rest ≡ read.element e n → o.strict_mode ≡ true → e.writing ≡ writing.Legacy what → IsStuck (literals.String k) o p

@@ -1,23 +1,15 @@
 -- What is read at a place lies within the text.
 use Rattle.std.proofs.Common.{◌≡◌, ℕ, suc, ◌+◌, ◌*◌, ◌^◌, ◌<◌, ◌≤◌, ◌==◌, true, cond, not, ◌&&◌, ◌||◌, List, [], ◌∷◌, length, Option, Some, None, refl, subst, arith, nat_lt, nat_le}
-use Rattle.std.proofs.lemmas.Bool.{cond_both}
-use Rattle.rx_tables.specs.Characters.{hex_digit_value, is_decimal_digit}
-use Rattle.rx_units.specs.Characters.{is_line_terminator}
+use Rattle.rx_units.proofs.Common.{cond_both, hex_digit_value, is_decimal_digit, is_line_terminator, Literal, Stop, is_line_feed, single_escape_value, written, is_open_brace, seen_front, EscapeRead, escaped, digit, unended, no_hex, no_unicode, passes, Front, element, closer, nothing}
+use Rattle.rx_units.proofs.Common.{substitution, invalid_hex, invalid_unicode, hex_pair, hex_at, four_at, digit_step, digits_at, braces_at, unicode_after, line_after, escape_after, escape_at, string_escape, string_front, template_escape, raw_line, template_front, front, byte_count}
+use Rattle.rx_units.proofs.Common.{front_is, either_way, both}
 use Rattle.rx_units.specs.declared.quoted_text.element.Writing.TheVariants as writing
 use Rattle.rx_units.specs.declared.quoted_text.found.Found.{Found}
-use Rattle.rx_units.specs.declared.quoted_text.literal.Literal.{Literal}
 use Rattle.rx_units.specs.declared.quoted_text.literal.Literal.TheVariants as literals
-use Rattle.rx_units.specs.declared.quoted_text.reading.Stop.{Stop}
 use Rattle.rx_units.specs.declared.string_literal_parser.StringLiteralKind.TheVariants as quotes
-use Rattle.rx_units.specs.Quoted.Escapes.{is_line_feed, single_escape_value}
-use Rattle.rx_units.specs.Quoted.Elements.{written, is_open_brace}
-use Rattle.rx_units.specs.Quoted.Found.{seen_front}
-use Rattle.rx_units.specs.Quoted.Fronts.{EscapeRead, escaped, digit, unended, no_hex, no_unicode, passes, Front, element, closer, nothing, substitution, invalid_hex, invalid_unicode, too_large, hex_pair, hex_at, four_at, digit_step, digits_at, braces_at, unicode_after, line_after, escape_after, escape_at, string_escape, string_front, template_escape, raw_line, template_front, front}
-use Rattle.rx_units.specs.Quoted.Texts.{byte_count}
-use Rattle.rx_units.proofs.Quoted.ReadForms.{legacy_read, digit_read}
+use Rattle.rx_units.specs.Quoted.Fronts.{too_large}
+use Rattle.rx_units.proofs.Quoted.ReadForms.{legacy_read, digit_read, escape_rows, string_rows, template_rows}
 use Rattle.rx_units.proofs.Quoted.Widths.{length_le_bytes}
-use Rattle.rx_units.specs.Digits.{front_is}
-use Rattle.rx_units.proofs.Choices.{either_way, both}
 
 abbrev read_extent : EscapeRead → ℕ
 read_extent (escaped v k n) = n
@@ -35,9 +27,8 @@ hex_one None = omega arith
 hex_one (Some i) = omega arith
 
 hex_two : (o p : Option ℕ) → read_extent (hex_pair o p) ≤ 4
-hex_two None p = omega arith
 hex_two (Some i) None = omega arith
-hex_two (Some i) (Some j) = omega arith
+hex_two o p = omega arith
 
 hex_extent : (w : List ℕ) → read_extent (hex_at w) ≤ length w + 2
 hex_extent [] = omega arith
@@ -59,12 +50,9 @@ braces_extent [] = omega arith
 braces_extent (x ∷ xs) = let h = digits_extent 0 0 xs in either_way (ReadWithin (suc (length xs) + 2)) (x == 123) (digits_at 0 0 xs) (no_unicode 2) (omega arith) (omega arith)
 
 unicode_extent : (w : List ℕ) (o : Option ℕ) → four_at w ≡ o → read_extent (unicode_after o w) ≤ length w + 2
-unicode_extent [] (Some v) e = absurd (let no : ⊥ = cc e in no)
-unicode_extent (a ∷ []) (Some v) e = absurd (let no : ⊥ = cc e in no)
-unicode_extent (a ∷ b ∷ []) (Some v) e = absurd (let no : ⊥ = cc e in no)
-unicode_extent (a ∷ b ∷ c ∷ []) (Some v) e = absurd (let no : ⊥ = cc e in no)
 unicode_extent (a ∷ b ∷ c ∷ d ∷ w) (Some v) e = omega arith
 unicode_extent w None e = braces_extent w
+unicode_extent w (Some v) e = absurd (let no : ⊥ = cc e in no)
 
 feed_some : (w : List ℕ) → front_is is_line_feed w ≡ true → 1 ≤ length w
 feed_some [] h = absurd (let no : ⊥ = cc h in no)
@@ -78,15 +66,7 @@ line_extent c w =
 after_extent : (c : ℕ) (w : List ℕ) (o : Option ℕ) → read_extent (escape_after o c w) ≤ length w + 2
 after_extent c w (Some v) = omega arith
 after_extent c w None =
-    let m = length w + 2 in
-    let last = cond (is_line_terminator c) (line_after c w) (escaped c writing.Plain 2) in
-    let by_u = cond (c == 117) (unicode_after (four_at w) w) last in
-    let by_x = cond (c == 120) (hex_at w) by_u in
-    either_way (ReadWithin m) (is_decimal_digit c) (cond (c == 48 && not (front_is is_decimal_digit w)) (escaped 0 writing.Plain 2) digit) by_x
-    (either_way (ReadWithin m) (c == 48 && not (front_is is_decimal_digit w)) (escaped 0 writing.Plain 2) digit (omega arith) (omega arith))
-    (either_way (ReadWithin m) (c == 120) (hex_at w) by_u (hex_extent w)
-    (either_way (ReadWithin m) (c == 117) (unicode_after (four_at w) w) last (unicode_extent w (four_at w) refl)
-    (either_way (ReadWithin m) (is_line_terminator c) (line_after c w) (escaped c writing.Plain 2) (line_extent c w) (omega arith))))
+    escape_rows (ReadWithin (length w + 2)) c w (λ z. omega arith) (λ d z. omega arith) (λ x. hex_extent w) (λ u. unicode_extent w (four_at w) refl) (λ l. line_extent c w) (λ d x u l. omega arith)
 
 escape_extent : (w : List ℕ) → read_extent (escape_at w) ≤ length w + 1
 unfolding escape_at
@@ -107,44 +87,28 @@ abbrev Within : ℕ → Front → Type 0
 Within m r = extent r ≤ m
 
 string_escape_extent : (r : EscapeRead) (w : List ℕ) → read_extent r ≤ length w + 1 → extent (string_escape r w) ≤ length w + 1
-string_escape_extent (escaped v k n) w h = omega arith
 string_escape_extent digit w h = legacy_read (Within (length w + 1)) (λ e n. omega arith) (omega arith) w
-string_escape_extent unended w h = omega arith
-string_escape_extent (no_hex n) w h = omega arith
-string_escape_extent (no_unicode n) w h = omega arith
 string_escape_extent (passes n) w h = h
+string_escape_extent r w h = omega arith
 
 string_extent : (quote : ℕ) (us : List ℕ) → extent (string_front quote us) ≤ length us
 string_extent quote [] = omega arith
 string_extent quote (c ∷ w) =
     let e = string_escape_extent (escape_at w) w (escape_extent w) in
-    let m = suc (length w) in
-    let last = cond (c == 13 || c == 10) (nothing 0) (element (written c writing.Plain) 1) in
-    either_way (Within m) (c == quote) closer (cond (c == 92) (string_escape (escape_at w) w) last) (omega arith)
-    (either_way (Within m) (c == 92) (string_escape (escape_at w) w) last (omega arith)
-    (either_way (Within m) (c == 13 || c == 10) (nothing 0) (element (written c writing.Plain) 1) (omega arith) (omega arith)))
+    string_rows (Within (suc (length w))) quote c w (λ q. omega arith) (λ b. omega arith) (λ l. omega arith) (λ q b l. omega arith)
 
 template_escape_extent : (r : EscapeRead) (w : List ℕ) → read_extent r ≤ length w + 1 → extent (template_escape r w) ≤ length w + 1
 template_escape_extent (escaped v k n) w h = omega arith
 template_escape_extent digit w h = digit_read (Within (length w + 1)) (λ e n. omega arith) (omega arith) w
 template_escape_extent unended w h = omega arith
-template_escape_extent (no_hex n) w h = h
-template_escape_extent (no_unicode n) w h = h
-template_escape_extent (passes n) w h = h
+template_escape_extent r w h = h
 
 template_extent : (us : List ℕ) → extent (template_front us) ≤ length us
 template_extent [] = omega arith
 template_extent (c ∷ w) =
     let e = template_escape_extent (escape_at w) w (escape_extent w) in
-    let m = suc (length w) in
-    let own = element (written c writing.Plain) 1 in
-    let last = cond (is_line_terminator c) (raw_line c w) own in
-    let by_dollar = cond (c == 36) (cond (front_is is_open_brace w) substitution own) last in
-    let by_backslash = cond (c == 92) (template_escape (escape_at w) w) by_dollar in
-    either_way (Within m) (c == 96) closer by_backslash (omega arith)
-    (either_way (Within m) (c == 92) (template_escape (escape_at w) w) by_dollar (omega arith)
-    (either_way (Within m) (c == 36) (cond (front_is is_open_brace w) substitution own) last (either_way (Within m) (front_is is_open_brace w) substitution own (omega arith) (omega arith))
-    (either_way (Within m) (is_line_terminator c) (raw_line c w) own (either_way (Within m) (c == 13 && front_is is_line_feed w) (element (written 10 writing.LineTerminator) 2) (element (written c writing.LineTerminator) 1) (omega arith) (omega arith)) (omega arith))))
+    template_rows (Within (suc (length w))) c w (λ q. omega arith) (λ b. omega arith) (λ d o. omega arith) (λ d o. omega arith)
+    (λ l. either_way (Within (suc (length w))) (c == 13 && front_is is_line_feed w) (element (written 10 writing.LineTerminator) 2) (element (written c writing.LineTerminator) 1) (omega arith) (omega arith)) (λ q b d l. omega arith)
 
 pub front_extent : (l : Literal) (us : List ℕ) → extent (front l us) ≤ length us
 unfolding front

@@ -1,16 +1,7 @@
 -- Hexadecimal digits in braces: how they are read, against what they mean.
 use Rattle.std.proofs.Common.{◌≡◌, ℕ, ◌+◌, ◌*◌, ◌^◌, ◌<◌, ◌≤◌, ◌==◌, Bool, true, false, cond, is_some, ◌&&◌, List, [], ◌∷◌, ◌++◌, length, Option, Some, None, refl, sym, ap, ◌∙◌, arith, inl, inr, nat_lt, nat_le, option_and_then}
-use Rattle.std.proofs.lemmas.Bool.Decides.{nat_tests}
-use Rattle.std.proofs.lemmas.Bool.{eqb-true, ltb-true, leb-true, lt-ltb, ltb-false, le-ltb}
-use Rattle.std.proofs.lemmas.Option.{option_and_then_some}
-use Rattle.rx_tables.specs.Characters.{hex_digit_value}
-use Rattle.rx_units.specs.declared.quoted_text.element.Writing.{Writing}
+use Rattle.rx_units.proofs.Common.{nat_tests, eqb-true, ltb-true, leb-true, lt-ltb, ltb-false, le-ltb, option_and_then_some, hex_digit_value, Writing, is_close_brace, escaped, no_unicode, passes, digit_step, digits_at, front_is, hex_after, is_hex_digit, chosen, both, is_none, hex_le}
 use Rattle.rx_units.specs.declared.quoted_text.element.Writing.TheVariants as writing
-use Rattle.rx_units.specs.Quoted.Faults.{is_close_brace}
-use Rattle.rx_units.specs.Quoted.Fronts.{escaped, no_unicode, passes, digit_step, digits_at}
-use Rattle.rx_units.specs.Digits.{front_is, hex_after, is_hex_digit}
-use Rattle.rx_units.proofs.Choices.{chosen, both, is_none}
-use Rattle.rx_units.proofs.Digits.{hex_le}
 
 -- digits up to a brace
 pub record Run (n count : ℕ) (w : List ℕ) (v : ℕ) (k : Writing) (m : ℕ) : Type 0 where

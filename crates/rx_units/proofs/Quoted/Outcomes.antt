@@ -1,36 +1,19 @@
 -- What stands where reading stops, against what is decoded and against the faults.
 use Rattle.std.proofs.Common.{◌≡◌, ℕ, ◌+◌, ◌==◌, Bool, true, false, ◌&&◌, ◌||◌, List, [], ◌∷◌, length, take, drop, refl, sym, ap, ◌∙◌, subst, arith, inl, inr}
-use Rattle.std.proofs.lemmas.Bool.{eqb-true}
-use Rattle.std.specs.Char.{len_utf8}
-use Rattle.rx_base.specs.declared.span.Span.{Span}
-use Rattle.rx_units.specs.declared.code_point.CodePoint.{CodePoint}
-use Rattle.rx_units.specs.declared.quoted_text.element.Element.{Element}
-use Rattle.rx_units.specs.declared.quoted_text.element.Writing.{Writing}
+use Rattle.rx_units.proofs.Common.{eqb-true, len_utf8, Span, CodePoint, Element, Writing, LegacyKind, Literal, Options, Stop, StringLiteralKind, PassesHex, IsStop, string_element_fault, string_fault_at, text_span, quote_of, SpellsElement, SpellsInString, character, escape, legacy_octal}
+use Rattle.rx_units.proofs.Common.{non_octal, SpellsEscape, single, non_escape, null, hexadecimal, four_digits, braced, continuation, IsStringFault, followed, legacy, too_large, from_to, is_closer, seen_front, Given, Place, IsReached, IsDecoded, byte_count, is_refused, text_units, chosen, told_apart}
 use Rattle.rx_units.specs.declared.quoted_text.element.Writing.TheVariants as writing
-use Rattle.rx_units.specs.declared.string_literal_parser.LegacyKind.{LegacyKind}
 use Rattle.rx_units.specs.declared.string_literal_parser.LegacyKind.TheVariants as legacy_kind
-use Rattle.rx_units.specs.declared.quoted_text.literal.Literal.{Literal}
 use Rattle.rx_units.specs.declared.quoted_text.literal.Literal.TheVariants as literals
-use Rattle.rx_units.specs.declared.options.Options.{Options}
-use Rattle.rx_units.specs.declared.quoted_text.reading.Stop.{Stop}
-use Rattle.rx_units.specs.declared.string_literal_parser.StringLiteralKind.{StringLiteralKind}
 use Rattle.rx_units.specs.declared.string_literal_parser.StringLiteralKind.TheVariants as quotes
-use Rattle.rx_units.specs.Digits.{PassesHex}
-use Rattle.rx_units.specs.Quoted.Answers.{IsStop, string_element_fault, string_fault_at, text_span}
-use Rattle.rx_units.specs.Quoted.Elements.{quote_of, SpellsElement, SpellsInString, character, escape, legacy_octal, non_octal}
-use Rattle.rx_units.specs.Quoted.Escapes.{SpellsEscape, single, non_escape, null, hexadecimal, four_digits, braced, continuation}
-use Rattle.rx_units.specs.Quoted.Faults.{IsStringFault, nothing, followed, legacy, too_large, from_to}
+use Rattle.rx_units.specs.Quoted.Faults.{nothing}
 use Rattle.rx_units.specs.declared.string_literal_parser.StringFault.TheVariants as string_fault
-use Rattle.rx_units.specs.Quoted.Found.{is_closer, seen_front}
 use Rattle.rx_units.specs.Quoted.Fronts as read
-use Rattle.rx_units.specs.Quoted.Texts.{Given, Place, IsReached, IsDecoded, byte_count, is_refused}
-use Rattle.rx_units.specs.Quoted.Values.{text_units}
 use Rattle.rx_units.proofs.Quoted.Escapes.{Passes, passes_found}
 use Rattle.rx_units.proofs.Quoted.Fronts.{closer_found, nothing_stands, passes_front}
-use Rattle.rx_units.proofs.Quoted.ReadForms.{legacy_read}
+use Rattle.rx_units.proofs.Quoted.ReadForms.{legacy_read, string_rows}
 use Rattle.rx_units.proofs.Quoted.Turns.{place}
 use Rattle.rx_units.proofs.Quoted.Widths.{taken}
-use Rattle.rx_units.proofs.Choices.{chosen}
 
 abbrev is_large : read.Front → Bool
 is_large (read.too_large n) = true
@@ -38,9 +21,6 @@ is_large _ = false
 
 abbrev NoLarge : read.Front → Type 0
 NoLarge r = is_large r ≡ false
-
-no_large : (r : read.Front) (n : ℕ) → NoLarge r → r ≡ read.too_large n → ⊥
-no_large r n h e = let k : true ≡ false = sym (ap is_large e) ∙ h in cc k
 
 -- Digits that pass 32 bits stand here.
 pub record Large (n : ℕ) (us : List ℕ) : Type 0 where
@@ -60,22 +40,15 @@ large_of n m w p h = record {
 }
 
 escape_large : (w : List ℕ) (n : ℕ) (r : read.EscapeRead) → read.escape_at w ≡ r → read.string_escape r w ≡ read.too_large n → Large n (92 ∷ w)
-escape_large w n (read.escaped v k m) e h = absurd (let no : ⊥ = cc h in no)
-escape_large w n read.digit e h = absurd (no_large (read.legacy_at w) n (legacy_read NoLarge (λ e n. refl) refl w) h)
-escape_large w n read.unended e h = absurd (let no : ⊥ = cc h in no)
-escape_large w n (read.no_hex m) e h = absurd (let no : ⊥ = cc h in no)
-escape_large w n (read.no_unicode m) e h = absurd (let no : ⊥ = cc h in no)
+escape_large w n read.digit e h = absurd (told_apart is_large h (legacy_read NoLarge (λ e n. refl) refl w) refl)
 escape_large w n (read.passes m) e h = large_of n m w (passes_found m w e) h
+escape_large w n r e h = absurd (let no : ⊥ = cc h in no)
 
 string_large : (quote : ℕ) (us : List ℕ) (n : ℕ) → read.string_front quote us ≡ read.too_large n → Large n us
 string_large quote [] n h = absurd (let no : ⊥ = cc h in no)
-string_large quote (c ∷ w) n h = elim (chosen (c == quote) h) [
-  | inl p ↦ absurd (let no : ⊥ = cc p.1 in no)
-  | inr p ↦ elim (chosen (c == 92) p.1) [
-    | inl q ↦ subst (λ c. Large n (c ∷ w)) (sym (eqb-true c 92 q.0)) (escape_large w n (read.escape_at w) refl q.1)
-    | inr q ↦ elim (chosen (c == 13 || c == 10) q.1) [ inl r ↦ absurd (let no : ⊥ = cc r.1 in no) | inr r ↦ absurd (let no : ⊥ = cc r.1 in no) ]
-  ]
-]
+string_large quote (c ∷ w) n h =
+    string_rows (λ r. r ≡ read.too_large n → Large n (c ∷ w)) quote c w (λ q e. absurd (let no : ⊥ = cc e in no)) (λ b e. subst (λ c. Large n (c ∷ w)) (sym b) (escape_large w n (read.escape_at w) refl e))
+    (λ l e. absurd (let no : ⊥ = cc e in no)) (λ q b l e. absurd (let no : ⊥ = cc e in no)) h
 
 pub large_found : (k : StringLiteralKind) (us : List ℕ) (n : ℕ) → read.front (literals.String k) us ≡ read.too_large n → Large n us
 unfolding read.front
@@ -93,12 +66,7 @@ followed_there l us h no_end = let found = closer_found l us h in go found.0 fou
 -- An escape that strings and templates share is allowed.
 pub escape_allowed : (o : Options) (v : ℕ) (k : Writing) (w rest : List ℕ) → SpellsEscape v k w rest → is_refused o k ≡ false
 escape_allowed o v _ _ rest (single h) = refl
-escape_allowed o v _ _ rest (non_escape h) = refl
-escape_allowed o _ _ _ rest (null h) = refl
-escape_allowed o v _ _ rest (hexadecimal h) = refl
-escape_allowed o v _ _ rest (four_digits h) = refl
-escape_allowed o v _ _ rest (braced x xs h top) = refl
-escape_allowed o v _ w rest (continuation t) = refl
+escape_allowed o v k w rest s = refl
 
 -- a legacy escape in strict mode code
 record StrictLegacy (o : Options) (e : Element) : Type 0 where
@@ -159,17 +127,11 @@ end_there l rest read.closer h e = let c = closer_found l rest (sym h) in go c.0
     go : (more : List ℕ) → rest ≡ quote_of l ∷ more → length rest ≡ 1 → rest ≡ quote_of l ∷ []
     go [] h n = h
     go (c ∷ cs) h n = absurd (omega (arith, n, ap length h))
-end_there l rest (read.element x n) h e = absurd (let no : ⊥ = cc e in no)
-end_there l rest (read.nothing n) h e = absurd (let no : ⊥ = cc e in no)
-end_there l rest read.substitution h e = absurd (let no : ⊥ = cc e in no)
-end_there l rest (read.invalid_hex n) h e = absurd (let no : ⊥ = cc e in no)
-end_there l rest (read.invalid_unicode n) h e = absurd (let no : ⊥ = cc e in no)
-end_there l rest (read.too_large n) h e = absurd (let no : ⊥ = cc e in no)
+end_there l rest f h e = absurd (let no : ⊥ = cc e in no)
 
 quote_width : (l : Literal) → len_utf8 (quote_of l) ≡ 1
 quote_width (literals.String quotes.Double) = refl
-quote_width (literals.String quotes.Single) = refl
-quote_width literals.Template = refl
+quote_width l = refl
 
 module _ (l : Literal) (o : Options) (text inner : List ℕ) (stop : Stop) (opens : text ≡ quote_of l ∷ inner) (stops : IsStop l o inner stop) where
   -- where elements lead after an opening quote

@@ -1,19 +1,10 @@
 -- Characters of ASCII that stand for themselves in each kind of quotes, and escaped backslashes.
 use Rattle.std.proofs.Common.{◌≡◌, ℕ, ◌+◌, ◌^◌, ◌<◌, ◌≤◌, true, List, [], ◌∷◌, ◌++◌, length, get_or, drop, refl, sym, ap, ◌∙◌, subst, arith}
-use Rattle.std.proofs.lemmas.Bool.Decides.{nat_tests}
-use Rattle.std.proofs.lemmas.Str.{len_utf8_ascii}
-use Rattle.rx_base.specs.declared.span.Span.{Span}
-use Rattle.rx_units.specs.declared.code_point.CodePoint.{CodePoint}
+use Rattle.rx_units.proofs.Common.{nat_tests, len_utf8_ascii, Span, CodePoint, Literal, Options, IsPlainFront, SpellsElement, character, written, element, escape_at, front, is_plain, Place, Leads, byte_count}
 use Rattle.rx_units.specs.declared.code_point.EscapeKind.TheVariants as kind
 use Rattle.rx_units.specs.declared.quoted_text.element.Writing.TheVariants as writing
-use Rattle.rx_units.specs.declared.quoted_text.literal.Literal.{Literal}
 use Rattle.rx_units.specs.declared.quoted_text.literal.Literal.TheVariants as literals
-use Rattle.rx_units.specs.declared.options.Options.{Options}
 use Rattle.rx_units.specs.declared.string_literal_parser.StringLiteralKind.TheVariants as quotes
-use Rattle.rx_units.specs.Quoted.Answers.{IsPlainFront}
-use Rattle.rx_units.specs.Quoted.Elements.{SpellsElement, character, written}
-use Rattle.rx_units.specs.Quoted.Fronts.{element, escape_at, front, is_plain}
-use Rattle.rx_units.specs.Quoted.Texts.{Place, Leads, byte_count}
 use Rattle.rx_units.proofs.Literals.{ascii_unit}
 use Rattle.rx_units.proofs.Quoted.Fronts.{spelled_front}
 use Rattle.rx_units.proofs.Quoted.Turns.{place, turn}
@@ -22,8 +13,7 @@ use Rattle.rx_units.proofs.Quoted.Widths.{Taken, byte_split, taken}
 -- such a character is an element of itself
 plain_spelled : (l : Literal) (c : ℕ) (rest : List ℕ) → is_plain c ≡ true → SpellsElement l (written c writing.Plain) (c ∷ []) rest
 plain_spelled (literals.String quotes.Double) c rest h = character (grind (arith, nat_tests))
-plain_spelled (literals.String quotes.Single) c rest h = character (grind (arith, nat_tests))
-plain_spelled literals.Template c rest h = character (grind (arith, nat_tests))
+plain_spelled l c rest h = character (grind (arith, nat_tests))
 
 plain_front : (c : ℕ) (rest : List ℕ) → is_plain c ≡ true → IsPlainFront c 1 (c ∷ rest)
 plain_front c rest h =
@@ -41,8 +31,7 @@ plain_next (u ∷ us) c n e h = subst (λ u. IsPlainFront c 1 (u ∷ us)) e (pla
 backslash_found : (l : Literal) (rest : List ℕ) → front l (92 ∷ 92 ∷ rest) ≡ element (written 92 writing.Plain) 2
 unfolding front escape_at
 backslash_found (literals.String quotes.Double) rest = refl
-backslash_found (literals.String quotes.Single) rest = refl
-backslash_found literals.Template rest = refl
+backslash_found l rest = refl
 
 backslash_front : (rest : List ℕ) → IsPlainFront 92 2 (92 ∷ 92 ∷ rest)
 backslash_front rest = record {
@@ -52,9 +41,8 @@ backslash_front rest = record {
 }
 
 pub backslash_next : (us : List ℕ) (d e : ℕ) → 2 ≤ length us → 92 ≡ get_or us 0 d → 92 ≡ get_or us 1 e → IsPlainFront 92 2 us
-backslash_next [] d e n h k = absurd (omega (arith, n))
-backslash_next (u ∷ []) d e n h k = absurd (omega (arith, n))
 backslash_next (u ∷ v ∷ us) d e n h k = subst (λ u. IsPlainFront 92 2 (u ∷ v ∷ us)) h (subst (λ v. IsPlainFront 92 2 (92 ∷ v ∷ us)) k (backslash_front us))
+backslash_next us d e n h k = absurd (omega (arith, n))
 
 -- it is cut from the text
 pub plain_taken : {c n : ℕ} {us : List ℕ} → IsPlainFront c n us → Taken literals.Template (written c writing.Plain) n us

@@ -1,40 +1,25 @@
 -- Elements one after another: a text is decoded in one way, and no text with a fault is.
 use Rattle.std.proofs.Common.{◌≡◌, ℕ, ◌-◌, List, [], ◌∷◌, ◌++◌, All, length, length-append, take, drop, refl, sym, ap, ap₂, ◌∙◌, subst, arith}
-use Rattle.std.proofs.Math.Seq.{drop-append_seam, take-append_seam}
-use Rattle.std.proofs.lemmas.List.Elements.{All-nil, All-cons, All-head, All-tail}
-use Rattle.rx_units.specs.declared.code_point.CodePoint.{CodePoint}
-use Rattle.rx_units.specs.declared.quoted_text.element.Element.{Element}
-use Rattle.rx_units.specs.declared.quoted_text.literal.Literal.{Literal}
-use Rattle.rx_units.specs.declared.options.Options.{Options}
+use Rattle.rx_units.proofs.Common.{drop-append_seam, take-append_seam, All-nil, All-cons, All-head, All-tail, CodePoint, Element, Literal, Options, SpellsTerminator, alone, carriage_return, carriage_return_line_feed, quote_of, SpellsElement, SpellsInString, SpellsInTemplate, character}
+use Rattle.rx_units.proofs.Common.{escape, legacy_octal, non_octal, dollar, terminator, zero_digit, element, closer, front, text_units, Place, next_place, IsAllowed, Leads, no_element, one_more, place_after_opening, IsReached, IsDecoded, QuotedRow, after_elements}
 use Rattle.rx_units.specs.declared.quoted_text.literal.Literal.TheVariants as literals
 use Rattle.rx_units.specs.declared.string_literal_parser.StringLiteralKind.TheVariants as quotes
-use Rattle.rx_units.specs.Quoted.Escapes.{SpellsTerminator, alone, carriage_return, carriage_return_line_feed}
-use Rattle.rx_units.specs.Quoted.Elements.{quote_of, SpellsElement, SpellsInString, SpellsInTemplate, character, escape, legacy_octal, non_octal, dollar, terminator, zero_digit, digit}
-use Rattle.rx_units.specs.Quoted.Fronts.{element, closer, front}
-use Rattle.rx_units.specs.Quoted.Values.{text_units}
-use Rattle.rx_units.specs.Quoted.Texts.{Place, next_place, IsAllowed, Leads, no_element, one_more, place_after_opening, IsReached, IsDecoded, QuotedRow, after_elements}
+use Rattle.rx_units.specs.Quoted.Elements.{digit}
 use Rattle.rx_units.specs.Sequences.{ElementRow}
 use Rattle.rx_units.proofs.Quoted.Fronts.{spelled_front, quote_front}
 use Rattle.rx_units.proofs.Sequences.{row_append, one}
 
 some_terminator : (c : ℕ) (w rest : List ℕ) → w ≡ [] → SpellsTerminator c w rest → ⊥
 some_terminator c _ rest h (alone k) = cc h
-some_terminator _ _ rest h (carriage_return k) = cc h
-some_terminator _ _ rest h carriage_return_line_feed = cc h
+some_terminator c w rest h s = cc h
 
 none_in_string : (quote : ℕ) (e : Element) (w rest : List ℕ) → w ≡ [] → SpellsInString quote e w rest → ⊥
 none_in_string quote _ _ rest h (character k) = cc h
-none_in_string quote _ _ rest h (escape k) = cc h
-none_in_string quote _ _ rest h (legacy_octal s) = cc h
-none_in_string quote _ _ rest h (non_octal k) = cc h
+none_in_string quote e w rest h s = cc h
 
 none_in_template : (e : Element) (w rest : List ℕ) → w ≡ [] → SpellsInTemplate e w rest → ⊥
-none_in_template _ _ rest h (character k) = cc h
-none_in_template _ _ rest h (dollar k) = cc h
 none_in_template _ w rest h (terminator {c} t) = some_terminator c w rest h t
-none_in_template _ _ rest h (escape k) = cc h
-none_in_template _ _ rest h (zero_digit k) = cc h
-none_in_template _ _ rest h (digit k) = cc h
+none_in_template e w rest h s = cc h
 
 -- No element is spelled by nothing.
 pub some_characters : (l : Literal) (e : Element) (rest : List ℕ) → SpellsElement l e [] rest → ⊥

@@ -3,8 +3,5 @@ use Rattle.std.proofs.Common.{◌≡◌, ◌<◌, ℕ, List, [], ◌∷◌, leng
 use Rattle.rx_units.specs.Quoted.Fronts.{four_at}
 
 pub short_four : (us : List ℕ) → length us < 4 → four_at us ≡ None
-short_four [] h = refl
-short_four (a ∷ []) h = refl
-short_four (a ∷ b ∷ []) h = refl
-short_four (a ∷ b ∷ c ∷ []) h = refl
 short_four (a ∷ b ∷ c ∷ d ∷ us) h = absurd (omega arith)
+short_four us h = refl

@@ -1,30 +1,21 @@
 -- Where reading stops before the closing quote ends a text: at one place at most. So at most one fault stands in a text, and none in one that is decoded.
 use Rattle.std.proofs.Common.{◌≡◌, ℕ, Bool, true, false, List, [], ◌∷◌, refl, sym, ap, ◌∙◌, subst, arith, ◌⊎◌, inl, inr}
-use Rattle.std.specs.Prelude.{Result, Ok, Err, IfOk, IfErr, MatchResult}
-use Rattle.rx_units.specs.declared.code_point.CodePoint.{CodePoint}
-use Rattle.rx_units.specs.declared.quoted_text.literal.Literal.{Literal}
+use Rattle.rx_units.proofs.Common.{Result, Ok, Err, IfOk, IfErr, MatchResult, CodePoint, Literal, Options, quote_of, is_closer, Place, IsReached, IsDecoded, front_is}
 use Rattle.rx_units.specs.declared.quoted_text.literal.Literal.TheVariants as literals
-use Rattle.rx_units.specs.declared.options.Options.{Options}
 use Rattle.rx_units.specs.declared.string_literal_parser.StringLiteralKind.TheVariants as quotes
-use Rattle.rx_units.specs.Quoted.Elements.{quote_of}
-use Rattle.rx_units.specs.Quoted.Found.{is_closer}
 use Rattle.rx_units.specs.Quoted.Fronts as read
-use Rattle.rx_units.specs.Quoted.Texts.{Place, IsReached, IsDecoded}
 use Rattle.rx_units.proofs.Quoted.Fronts.{spelled_front, quote_front}
 use Rattle.rx_units.proofs.Quoted.Rows.{IsStuck, stuck_at_quote, one_reached}
-use Rattle.rx_units.specs.Digits.{front_is}
 
 -- a text has one opening quote
 one_quote : (l m : Literal) → quote_of l ≡ quote_of m → l ≡ m
-one_quote (literals.String quotes.Double) (literals.String quotes.Double) h = refl
 one_quote (literals.String quotes.Double) (literals.String quotes.Single) h = let e : 34 ≡ 39 = h in absurd (omega (arith, e))
 one_quote (literals.String quotes.Double) literals.Template h = let e : 34 ≡ 96 = h in absurd (omega (arith, e))
 one_quote (literals.String quotes.Single) (literals.String quotes.Double) h = let e : 39 ≡ 34 = h in absurd (omega (arith, e))
-one_quote (literals.String quotes.Single) (literals.String quotes.Single) h = refl
 one_quote (literals.String quotes.Single) literals.Template h = let e : 39 ≡ 96 = h in absurd (omega (arith, e))
 one_quote literals.Template (literals.String quotes.Double) h = let e : 96 ≡ 34 = h in absurd (omega (arith, e))
 one_quote literals.Template (literals.String quotes.Single) h = let e : 96 ≡ 39 = h in absurd (omega (arith, e))
-one_quote literals.Template literals.Template h = refl
+one_quote l m h = refl
 
 pub one_literal : (l m : Literal) (o : Options) (text : List ℕ) (p q : Place) → IsReached l o text p → IsReached m o text q → l ≡ m
 one_literal l m o text p q a b = one_quote l m (let e : quote_of l ∷ a.inner ≡ quote_of m ∷ b.inner = sym a.opens ∙ b.opens in cc e)

@@ -1,21 +1,13 @@
 -- At most one fault stands in a template, and none in one that is decoded.
 use Rattle.std.proofs.Common.{◌≡◌, ℕ, ◌+◌, true, false, List, ◌∷◌, ◌++◌, length, take, refl, sym, ap, ◌∙◌, arith, ◌⊎◌}
-use Rattle.std.specs.Prelude.{Result, IfOk, IfErr, MatchResult}
-use Rattle.std.proofs.Math.Seq.{take-append_seam}
-use Rattle.rx_units.specs.declared.code_point.CodePoint.{CodePoint}
-use Rattle.rx_units.specs.declared.quoted_text.element.Element.{Element}
-use Rattle.rx_units.specs.declared.quoted_text.element.Writing.{Writing}
+use Rattle.rx_units.proofs.Common.{Result, IfOk, IfErr, MatchResult, take-append_seam, CodePoint, Element, Writing, Options, TemplateFault, IsTemplateOf, template_element_fault, template_fault_at, is_grave_accent, IsTemplateFault, unopened, ends, ends_escape, followed, not_escape}
+use Rattle.rx_units.proofs.Common.{no_hex_digit, one_hex_digit, no_four_digits, no_code_point, too_large, from_to, empty_at, is_closer, Place, IsReached, IsDecoded, byte_count, is_refused}
 use Rattle.rx_units.specs.declared.quoted_text.element.Writing.TheVariants as writing
 use Rattle.rx_units.specs.declared.quoted_text.literal.Literal.TheVariants as literals
-use Rattle.rx_units.specs.declared.options.Options.{Options}
-use Rattle.rx_units.specs.declared.template_literal_parser.TemplateFault.{TemplateFault}
 use Rattle.rx_units.specs.declared.template_literal_parser.TemplateFault.TheVariants as template_fault
 use Rattle.rx_units.specs.declared.template_literal_parser.TemplateLiteral.{TemplateLiteral}
-use Rattle.rx_units.specs.Quoted.Answers.{IsTemplateOf, template_element_fault, template_fault_at}
-use Rattle.rx_units.specs.Quoted.Faults.{is_grave_accent, IsTemplateFault, unopened, ends, ends_escape, followed, substitution, not_escape, no_hex_digit, one_hex_digit, no_four_digits, no_code_point, too_large, from_to, empty_at}
-use Rattle.rx_units.specs.Quoted.Found.{is_closer}
+use Rattle.rx_units.specs.Quoted.Faults.{substitution}
 use Rattle.rx_units.specs.Quoted.Fronts as read
-use Rattle.rx_units.specs.Quoted.Texts.{Place, IsReached, IsDecoded, byte_count, is_refused}
 use Rattle.rx_units.proofs.Quoted.Fronts.{quote_front, passes_front, spelled_front}
 use Rattle.rx_units.proofs.Quoted.Rows.{IsStuck}
 use Rattle.rx_units.proofs.Quoted.Stops.{Cause, outside, inside, is_element, one_cause, no_cause, without_closer, stops_without, stops_followed, answers_right, answers_fault}

@@ -1,14 +1,10 @@
 -- Where a fault of a template stands, it is read.
 use Rattle.std.proofs.Common.{◌≡◌, ℕ, ◌+◌, ◌<◌, true, false, cond, is_some, List, [], ◌∷◌, ◌++◌, length, Option, Some, None, refl, ap, ◌∙◌, arith}
-use Rattle.rx_tables.specs.Characters.{hex_digit_value}
+use Rattle.rx_units.proofs.Common.{hex_digit_value, is_open_brace, IsNoCodePoint, EscapeRead, unended, no_hex, no_unicode, nothing, substitution, invalid_hex, invalid_unicode, front_digit, hex_pair, hex_at, four_at, digits_at, braces_at, unicode_after, escape_at, template_escape, front}
+use Rattle.rx_units.proofs.Common.{front_is, hex_number, is_hex_digit, is_none}
 use Rattle.rx_units.specs.declared.quoted_text.literal.Literal.TheVariants as literals
-use Rattle.rx_units.specs.Quoted.Elements.{is_open_brace}
-use Rattle.rx_units.specs.Quoted.Faults.{IsNoCodePoint}
-use Rattle.rx_units.specs.Quoted.Fronts.{EscapeRead, unended, no_hex, no_unicode, nothing, substitution, invalid_hex, invalid_unicode, front_digit, hex_pair, hex_at, four_at, digits_at, braces_at, unicode_after, escape_at, template_escape, front}
 use Rattle.rx_units.proofs.Quoted.HexDigits.{no_run_again}
 use Rattle.rx_units.proofs.Quoted.Escapes.{brace_no_four}
-use Rattle.rx_units.specs.Digits.{front_is, hex_number, is_hex_digit}
-use Rattle.rx_units.proofs.Choices.{is_none}
 
 no_digit_read : (w : List ℕ) → front_is is_hex_digit w ≡ false → front_digit w ≡ None
 no_digit_read [] h = refl
@@ -23,15 +19,12 @@ half_pair None p some none = absurd (let no : ⊥ = cc some in no)
 half_pair (Some i) p some none = ap (hex_pair (Some i)) none
 
 no_four_read : (w : List ℕ) → ((a b c d v : ℕ) (more : List ℕ) → w ≡ a ∷ b ∷ c ∷ d ∷ more → hex_number (a ∷ b ∷ c ∷ d ∷ []) ≡ Some v → ⊥) → four_at w ≡ None
-no_four_read [] none = refl
-no_four_read (a ∷ []) none = refl
-no_four_read (a ∷ b ∷ []) none = refl
-no_four_read (a ∷ b ∷ c ∷ []) none = refl
 no_four_read (a ∷ b ∷ c ∷ d ∷ w) none = go (hex_number (a ∷ b ∷ c ∷ d ∷ [])) refl
   where
     go : (o : Option ℕ) → hex_number (a ∷ b ∷ c ∷ d ∷ []) ≡ o → o ≡ None
     go None e = refl
     go (Some v) e = absurd (none a b c d v w refl e)
+no_four_read w none = refl
 
 no_brace_read : (w : List ℕ) → front_is is_open_brace w ≡ false → braces_at w ≡ no_unicode 2
 no_brace_read [] h = refl

@@ -1,38 +1,27 @@
 -- Where a template is not decoded, its fault stands.
 use Rattle.std.proofs.Common.{◌≡◌, ℕ, ◌+◌, ◌<◌, ◌==◌, Bool, true, false, cond, not, is_some, ◌&&◌, List, [], ◌∷◌, length, take, drop, Option, Some, None, refl, sym, ap, ◌∙◌, subst, arith, inl, inr, ◌⊎◌, lit<}
-use Rattle.std.proofs.lemmas.Bool.{eqb-true}
-use Rattle.rx_tables.specs.Characters.{hex_digit_value, is_decimal_digit}
-use Rattle.rx_units.specs.Characters.{is_line_terminator}
-use Rattle.rx_units.specs.declared.quoted_text.element.Writing.{Writing}
+use Rattle.rx_units.proofs.Common.{eqb-true, hex_digit_value, is_decimal_digit, is_line_terminator, Writing, Element, Options, template_element_fault, template_fault_at, is_line_feed, single_escape_value, written, is_open_brace, SpellsInTemplate, character, dollar, terminator, escape}
+use Rattle.rx_units.proofs.Common.{zero_digit, IsNoCodePoint, IsTemplateFault, ends, ends_escape, followed, not_escape, no_hex_digit, one_hex_digit, no_four_digits, no_code_point, too_large, from_to, is_closer, Place, IsReached, byte_count, is_refused, front_is, hex_number, is_hex_digit}
+use Rattle.rx_units.proofs.Common.{chosen, either_way, told_apart}
 use Rattle.rx_units.specs.declared.quoted_text.element.Writing.TheVariants as writing
-use Rattle.rx_units.specs.declared.quoted_text.element.Element.{Element}
 use Rattle.rx_units.specs.declared.quoted_text.literal.Literal.TheVariants as literals
-use Rattle.rx_units.specs.declared.options.Options.{Options}
 use Rattle.rx_units.specs.declared.template_literal_parser.TemplateFault.TheVariants as template_fault
-use Rattle.rx_units.specs.Quoted.Answers.{template_element_fault, template_fault_at}
-use Rattle.rx_units.specs.Quoted.Escapes.{is_line_feed, single_escape_value}
-use Rattle.rx_units.specs.Quoted.Elements.{written, is_open_brace, SpellsInTemplate, character, dollar, terminator, escape, zero_digit, digit}
-use Rattle.rx_units.specs.Quoted.Faults.{IsNoCodePoint, IsTemplateFault, ends, ends_escape, followed, substitution, not_escape, no_hex_digit, one_hex_digit, no_four_digits, no_code_point, too_large, from_to}
-use Rattle.rx_units.specs.Quoted.Found.{is_closer}
+use Rattle.rx_units.specs.Quoted.Elements.{digit}
+use Rattle.rx_units.specs.Quoted.Faults.{substitution}
 use Rattle.rx_units.specs.Quoted.Fronts as read
-use Rattle.rx_units.specs.Quoted.Texts.{Place, IsReached, byte_count, is_refused}
 use Rattle.rx_units.proofs.Quoted.HexDigits.{NoRun, no_run}
 use Rattle.rx_units.proofs.Quoted.Escapes.{Passes, passes_found}
 use Rattle.rx_units.proofs.Quoted.EscapeDigits.{digit_found}
 use Rattle.rx_units.proofs.Quoted.Outcomes.{allowed_refused, escape_allowed, followed_there}
-use Rattle.rx_units.proofs.Quoted.ReadForms.{hex_read, unicode_read, digit_after_read}
+use Rattle.rx_units.proofs.Quoted.ReadForms.{hex_read, unicode_read, digit_after_read, escape_rows, template_rows}
 use Rattle.rx_units.proofs.Quoted.Widths.{taken}
-use Rattle.rx_units.specs.Digits.{front_is, hex_number, is_hex_digit}
-use Rattle.rx_units.proofs.Choices.{chosen, either_way}
 
 -- What is not allowed in a template are digits that are no escape, with strings as the standard has them.
 template_refused : (o : Options) (e : Element) (w rest : List ℕ) → SpellsInTemplate e w rest → is_refused o e.writing ≡ true → (e.writing ≡ writing.NotEscape) × (o.standard_strings ≡ true)
-template_refused o _ _ rest (character h) r = allowed_refused refl r
-template_refused o _ _ rest (dollar h) r = allowed_refused refl r
-template_refused o _ _ rest (terminator h) r = allowed_refused refl r
 template_refused o _ _ rest (escape {v} {k} {w} p) r = allowed_refused (escape_allowed o v k w rest p) r
 template_refused o _ _ rest (zero_digit h) r = (refl, r)
 template_refused o _ _ rest (digit h) r = (refl, r)
+template_refused o _ _ rest _ r = allowed_refused refl r
 
 -- what is read where an escape is none
 abbrev is_bad : read.EscapeRead → Bool
@@ -43,26 +32,14 @@ is_bad _ = true
 abbrev NoBad : read.EscapeRead → Type 0
 NoBad r = is_bad r ≡ false
 
-no_bad : (r s : read.EscapeRead) → NoBad r → r ≡ s → is_bad s ≡ true → ⊥
-no_bad r s h e k = let n : false ≡ true = sym h ∙ ap is_bad e ∙ k in cc n
-
 after_bad : (c : ℕ) (w : List ℕ) (r : read.EscapeRead) (o : Option ℕ) → is_bad r ≡ true → read.escape_after o c w ≡ r
     → ((c ≡ 120) × (read.hex_at w ≡ r)) ⊎ ((c ≡ 117) × (read.unicode_after (read.four_at w) w ≡ r))
-after_bad c w r (Some x) b h = absurd (no_bad (read.escaped x writing.Plain 2) r refl h b)
-after_bad c w r None b h = elim (chosen (is_decimal_digit c) h) [
-  | inl p ↦ absurd (no_bad (cond (c == 48 && not (front_is is_decimal_digit w)) (read.escaped 0 writing.Plain 2) read.digit) r
-      (either_way NoBad (c == 48 && not (front_is is_decimal_digit w)) (read.escaped 0 writing.Plain 2) read.digit refl refl) p.1 b)
-  | inr p ↦ elim (chosen (c == 120) p.1) [
-    | inl q ↦ inl (eqb-true c 120 q.0, q.1)
-    | inr q ↦ elim (chosen (c == 117) q.1) [
-      | inl s ↦ inr (eqb-true c 117 s.0, s.1)
-      | inr s ↦ elim (chosen (is_line_terminator c) s.1) [
-        | inl t ↦ absurd (no_bad (read.line_after c w) r (either_way NoBad (c == 13 && front_is is_line_feed w) (read.escaped 10 writing.LineContinuation 3) (read.escaped c writing.LineContinuation 2) refl refl) t.1 b)
-        | inr t ↦ absurd (no_bad (read.escaped c writing.Plain 2) r refl t.1 b)
-      ]
-    ]
-  ]
-]
+after_bad c w r (Some x) b h = absurd (told_apart is_bad h refl b)
+after_bad c w r None b h =
+    escape_rows (λ x. x ≡ r → ((c ≡ 120) × (read.hex_at w ≡ r)) ⊎ ((c ≡ 117) × (read.unicode_after (read.four_at w) w ≡ r))) c w (λ z e. absurd (told_apart is_bad e refl b)) (λ d z e. absurd (told_apart is_bad e refl b))
+    (λ x e. inl (x, e)) (λ u e. inr (u, e))
+    (λ l e. absurd (told_apart is_bad e (either_way NoBad (c == 13 && front_is is_line_feed w) (read.escaped 10 writing.LineContinuation 3) (read.escaped c writing.LineContinuation 2) refl refl) b))
+    (λ d x u l e. absurd (told_apart is_bad e refl b)) h
 
 -- the ways in which an escape is none
 data Bad (w : List ℕ) (r : read.EscapeRead) : Type 0 where
@@ -104,9 +81,6 @@ is_fault _ = true
 abbrev NoFault : read.Front → Type 0
 NoFault r = is_fault r ≡ false
 
-no_fault : (r s : read.Front) → NoFault r → r ≡ s → is_fault s ≡ true → ⊥
-no_fault r s h e k = let n : false ≡ true = sym h ∙ ap is_fault e ∙ k in cc n
-
 brace_there : (w : List ℕ) → front_is is_open_brace w ≡ true → (t : List ℕ) × (w ≡ 123 ∷ t)
 brace_there [] h = absurd (let no : ⊥ = cc h in no)
 brace_there (c ∷ t) h = (t, ap (λ c. c ∷ t) (eqb-true c 123 h))
@@ -119,22 +93,11 @@ data Without (us : List ℕ) (f : read.Front) : Type 0 where
 
 without_found : (us : List ℕ) (f : read.Front) → is_fault f ≡ true → read.template_front us ≡ f → Without us f
 without_found [] f b h = at_text_end refl h
-without_found (c ∷ w) f b h = elim (chosen (c == 96) h) [
-  | inl p ↦ absurd (no_fault read.closer f refl p.1 b)
-  | inr p ↦ elim (chosen (c == 92) p.1) [
-    | inl q ↦ at_escape w (ap (λ c. c ∷ w) (eqb-true c 92 q.0)) q.1
-    | inr q ↦ elim (chosen (c == 36) q.1) [
-      | inl r ↦ elim (chosen (front_is is_open_brace w) r.1) [
-        | inl s ↦ let t = brace_there w s.0 in at_substitution t.0 (ap (λ c. c ∷ w) (eqb-true c 36 r.0) ∙ ap (λ w. 36 ∷ w) t.1) s.1
-        | inr s ↦ absurd (no_fault (read.element (written c writing.Plain) 1) f refl s.1 b)
-      ]
-      | inr r ↦ elim (chosen (is_line_terminator c) r.1) [
-        | inl s ↦ absurd (no_fault (read.raw_line c w) f (either_way NoFault (c == 13 && front_is is_line_feed w) (read.element (written 10 writing.LineTerminator) 2) (read.element (written c writing.LineTerminator) 1) refl refl) s.1 b)
-        | inr s ↦ absurd (no_fault (read.element (written c writing.Plain) 1) f refl s.1 b)
-      ]
-    ]
-  ]
-]
+without_found (c ∷ w) f b h =
+    template_rows (λ r. r ≡ f → Without (c ∷ w) f) c w (λ q e. absurd (told_apart is_fault e refl b)) (λ k e. at_escape w (ap (λ c. c ∷ w) k) e)
+    (λ d o e. let t = brace_there w o in at_substitution t.0 (ap (λ c. c ∷ w) d ∙ ap (λ w. 36 ∷ w) t.1) e) (λ d o e. absurd (told_apart is_fault e refl b))
+    (λ l e. absurd (told_apart is_fault e (either_way NoFault (c == 13 && front_is is_line_feed w) (read.element (written 10 writing.LineTerminator) 2) (read.element (written c writing.LineTerminator) 1) refl refl) b))
+    (λ q k d l e. absurd (told_apart is_fault e refl b)) h
 
 abbrev front_of : read.EscapeRead → read.Front
 front_of read.unended = read.nothing 1
@@ -145,15 +108,12 @@ front_of _ = read.closer
 
 -- a fault of an escape is what is read of it
 escape_fault : (w : List ℕ) (f : read.Front) (r : read.EscapeRead) → is_fault f ≡ true → read.escape_at w ≡ r → read.template_escape r w ≡ f → (is_bad r ≡ true) × (front_of r ≡ f)
-escape_fault w f (read.escaped v k n) b e h = absurd (no_fault (read.element (written v k) n) f refl h b)
+escape_fault w f (read.escaped v k n) b e h = absurd (told_apart is_fault h refl b)
 escape_fault w f read.digit b e h =
     let d = digit_found w e in
     let some : NoFault (read.digit_at w) = subst (λ w. NoFault (read.digit_at w)) (sym d.whole) (digit_after_read NoFault (λ e n. refl) d.c d.rest) in
-    absurd (no_fault (read.digit_at w) f some h b)
-escape_fault w f read.unended b e h = (refl, h)
-escape_fault w f (read.no_hex n) b e h = (refl, h)
-escape_fault w f (read.no_unicode n) b e h = (refl, h)
-escape_fault w f (read.passes n) b e h = (refl, h)
+    absurd (told_apart is_fault h some b)
+escape_fault w f r b e h = (refl, h)
 
 no_front_digit : (w : List ℕ) → read.front_digit w ≡ None → front_is is_hex_digit w ≡ false
 no_front_digit [] h = refl
@@ -218,8 +178,6 @@ module _ (o : Options) (text : List ℕ) (p : Place) (reached : IsReached litera
       (too_large reached e l.over)
 
   bad_stands : (w : List ℕ) (r : read.EscapeRead) → read.escape_at w ≡ r → is_bad r ≡ true → p.rest ≡ 92 ∷ w → Bad w r → IsTemplateFault o text (template_fault_at (front_of r) p.offset p.rest)
-  bad_stands w (read.escaped v k n) is b e x = absurd (let no : ⊥ = cc b in no)
-  bad_stands w read.digit is b e x = absurd (let no : ⊥ = cc b in no)
   bad_stands w read.unended is b e (at_end h k) = ends_escape reached (e ∙ ap (λ w. 92 ∷ w) h)
   bad_stands w read.unended is b e (at_hex t h k) = absurd (no_hexish t read.unended k refl)
   bad_stands w read.unended is b e (at_unicode t h k) = absurd (no_unicodish t read.unended k refl)
@@ -230,6 +188,7 @@ module _ (o : Options) (text : List ℕ) (p : Place) (reached : IsReached litera
   bad_stands w (read.no_unicode n) is b e (at_hex t h k) = absurd (no_hexish t (read.no_unicode n) k refl)
   bad_stands w (read.no_unicode n) is b e (at_unicode t h k) = unicode_stands t n (e ∙ ap (λ w. 92 ∷ w) h) (read.four_at t) refl k
   bad_stands w (read.passes n) is b e x = large_stands w n e (passes_found n w is)
+  bad_stands w r is b e x = absurd (let no : ⊥ = cc b in no)
 
   without_stands : (f : read.Front) → is_fault f ≡ true → Without p.rest f → IsTemplateFault o text (template_fault_at f p.offset p.rest)
   without_stands f b (at_text_end e h) =
@@ -253,8 +212,4 @@ module _ (o : Options) (text : List ℕ) (p : Place) (reached : IsReached litera
       → (is_closer f && (length p.rest == 1)) ≡ false → IsTemplateFault o text (template_fault_at f p.offset p.rest)
   template_fault_stands (read.element e n) h last no_end = refused_stands e n (sym h) (last e n (sym h))
   template_fault_stands read.closer h last no_end = let c = followed_there literals.Template p.rest (sym h) no_end in followed reached c.2
-  template_fault_stands (read.nothing n) h last no_end = without_stands (read.nothing n) refl (without_found p.rest (read.nothing n) refl (sym (h ∙ template_is p.rest)))
-  template_fault_stands read.substitution h last no_end = without_stands read.substitution refl (without_found p.rest read.substitution refl (sym (h ∙ template_is p.rest)))
-  template_fault_stands (read.invalid_hex n) h last no_end = without_stands (read.invalid_hex n) refl (without_found p.rest (read.invalid_hex n) refl (sym (h ∙ template_is p.rest)))
-  template_fault_stands (read.invalid_unicode n) h last no_end = without_stands (read.invalid_unicode n) refl (without_found p.rest (read.invalid_unicode n) refl (sym (h ∙ template_is p.rest)))
-  template_fault_stands (read.too_large n) h last no_end = without_stands (read.too_large n) refl (without_found p.rest (read.too_large n) refl (sym (h ∙ template_is p.rest)))
+  template_fault_stands f h last no_end = without_stands f refl (without_found p.rest f refl (sym (h ∙ template_is p.rest)))

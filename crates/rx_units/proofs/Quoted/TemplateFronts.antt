@@ -1,22 +1,13 @@
 -- The elements of templates: what is spelled is read, and what is read is spelled.
 use Rattle.std.proofs.Common.{◌≡◌, ℕ, ◌==◌, Bool, true, false, cond, not, ◌&&◌, ◌||◌, List, [], ◌∷◌, ◌++◌, length, refl, sym, ap, ◌∙◌, subst, arith, inl, inr}
-use Rattle.std.proofs.lemmas.Bool.Decides.{nat_tests}
-use Rattle.std.proofs.lemmas.Bool.{eqb-true, cond-true, cond-false}
-use Rattle.rx_base.specs.Characters.{is_within}
-use Rattle.rx_tables.specs.Characters.{is_decimal_digit}
-use Rattle.rx_units.specs.Characters.{is_line_terminator}
-use Rattle.rx_units.specs.declared.quoted_text.element.Writing.{Writing}
+use Rattle.rx_units.proofs.Common.{nat_tests, eqb-true, cond-true, cond-false, is_within, is_decimal_digit, is_line_terminator, Writing, Element, is_line_feed, SpellsTerminator, alone, carriage_return, carriage_return_line_feed, written, is_open_brace, is_template_character}
+use Rattle.rx_units.proofs.Common.{SpellsInTemplate, character, dollar, terminator, escape, zero_digit, EscapeRead, escaped, unended, no_hex, no_unicode, passes, element, substitution, escape_at, digit_after, digit_at, template_escape, raw_line, template_front, digit as digit_read}
+use Rattle.rx_units.proofs.Common.{front_is, chosen, nonzero_digit}
 use Rattle.rx_units.specs.declared.quoted_text.element.Writing.TheVariants as writing
-use Rattle.rx_units.specs.declared.quoted_text.element.Element.{Element}
-use Rattle.rx_units.specs.Quoted.Escapes.{is_line_feed, SpellsTerminator, alone, carriage_return, carriage_return_line_feed}
-use Rattle.rx_units.specs.Quoted.Elements.{written, is_open_brace, is_template_character, SpellsInTemplate, character, dollar, terminator, escape, zero_digit, digit}
-use Rattle.rx_units.specs.Quoted.Fronts.{EscapeRead, escaped, unended, no_hex, no_unicode, passes, element, substitution, escape_at, digit_after, digit_at, template_escape, raw_line, template_front}
-use Rattle.rx_units.specs.Quoted.Fronts.{digit as digit_read}
-use Rattle.rx_units.proofs.Quoted.Escapes.{EscapeFront, escape_spelled, spelled_escape, line_front}
+use Rattle.rx_units.specs.Quoted.Elements.{digit}
+use Rattle.rx_units.proofs.Quoted.Escapes.{ElementFront, EscapeFront, escape_spelled, spelled_escape, stands_first, line_front}
 use Rattle.rx_units.proofs.Quoted.EscapeDigits.{digit_escape, digit_found}
-use Rattle.rx_units.specs.Digits.{front_is}
-use Rattle.rx_units.proofs.Choices.{chosen}
-use Rattle.rx_units.proofs.Digits.{nonzero_digit}
+use Rattle.rx_units.proofs.Quoted.ReadForms.{template_rows}
 
 -- a character that stands for itself
 record Plain (c : ℕ) : Type 0 where
@@ -84,72 +75,40 @@ spelled_template _ _ rest (digit {c} h) =
     let d = nonzero c h in
     ap (λ r. template_escape r (c ∷ rest)) (digit_escape c rest d.0 (no_null c _ d.1)) ∙ digit_row c rest d.1
 
--- an element that stands at the front
-pub record TemplateFront (e : Element) (n : ℕ) (us : List ℕ) : Type 0 where
-  pub spelled : List ℕ
-  pub rest : List ℕ
-  pub spells : SpellsInTemplate e spelled rest
-  pub whole : us ≡ spelled ++ rest
-  pub count : length spelled ≡ n
-
-give : {x e : Element} {m n : ℕ} (s rest : List ℕ) → SpellsInTemplate x s rest → length s ≡ m → element x m ≡ element e n → TemplateFront e n (s ++ rest)
-give {x} {e} {m} {n} s rest p l h = record {
-  spelled = s;
-  rest = rest;
-  spells = subst (λ e. SpellsInTemplate e s rest) (let same : x ≡ e = cc h in same) p;
-  whole = refl;
-  count = l ∙ (let same : m ≡ n = cc h in same);
-}
-
 from_zero : (b c : Bool) → b ≡ true → (b && not c) ≡ false → c ≡ true
 from_zero b c h k = grind arith
 
 and_yes : (b : Bool) → (b && true) ≡ false → b ≡ false
 and_yes b h = grind arith
 
-digit_spelled : (c : ℕ) (w : List ℕ) (e : Element) (n : ℕ) → is_decimal_digit c ≡ true → (c == 48 && not (front_is is_decimal_digit w)) ≡ false → digit_after c w ≡ element e n → TemplateFront e n (92 ∷ c ∷ w)
-digit_spelled c [] e n d z h = give (92 ∷ c ∷ []) [] (digit (nonzero_digit c d (and_yes (c == 48) z))) refl h
+digit_spelled : (c : ℕ) (w : List ℕ) (e : Element) (n : ℕ) → is_decimal_digit c ≡ true → (c == 48 && not (front_is is_decimal_digit w)) ≡ false → digit_after c w ≡ element e n → ElementFront SpellsInTemplate e n (92 ∷ c ∷ w)
+digit_spelled c [] e n d z h = stands_first (92 ∷ c ∷ []) [] (digit (nonzero_digit c d (and_yes (c == 48) z))) refl h
 digit_spelled c (x ∷ w) e n d z h = elim (chosen (c == 48) h) [
-  | inl p ↦ rw (eqb-true c 48 p.0) (give (92 ∷ 48 ∷ x ∷ []) w (zero_digit (from_zero (c == 48) (is_decimal_digit x) p.0 z)) refl p.1)
-  | inr p ↦ give (92 ∷ c ∷ []) (x ∷ w) (digit (nonzero_digit c d p.0)) refl p.1
+  | inl p ↦ rw (eqb-true c 48 p.0) (stands_first (92 ∷ 48 ∷ x ∷ []) w (zero_digit (from_zero (c == 48) (is_decimal_digit x) p.0 z)) refl p.1)
+  | inr p ↦ stands_first (92 ∷ c ∷ []) (x ∷ w) (digit (nonzero_digit c d p.0)) refl p.1
 ]
 
-escape_in_template : (v m : ℕ) (w : List ℕ) (k : Writing) (e : Element) (n : ℕ) → EscapeFront v k m w → element (written v k) m ≡ element e n → TemplateFront e n (92 ∷ w)
-escape_in_template v m w k e n f h = subst (λ w. TemplateFront e n (92 ∷ w)) (sym f.whole) (give (92 ∷ f.spelled) f.rest (escape f.spells) (omega (arith, f.count)) h)
+escape_in_template : (v m : ℕ) (w : List ℕ) (k : Writing) (e : Element) (n : ℕ) → EscapeFront v k m w → element (written v k) m ≡ element e n → ElementFront SpellsInTemplate e n (92 ∷ w)
+escape_in_template v m w k e n f h = subst (λ w. ElementFront SpellsInTemplate e n (92 ∷ w)) (sym f.whole) (stands_first (92 ∷ f.spelled) f.rest (escape f.spells) (omega (arith, f.count)) h)
 
-escape_found : (w : List ℕ) (e : Element) (n : ℕ) (r : EscapeRead) → escape_at w ≡ r → template_escape r w ≡ element e n → TemplateFront e n (92 ∷ w)
+escape_found : (w : List ℕ) (e : Element) (n : ℕ) (r : EscapeRead) → escape_at w ≡ r → template_escape r w ≡ element e n → ElementFront SpellsInTemplate e n (92 ∷ w)
 escape_found w e n (escaped v k m) f h = escape_in_template v m w k e n (escape_spelled v k m w f) h
 escape_found w e n digit_read f h =
     let d = digit_found w f in
-    subst (λ w. TemplateFront e n (92 ∷ w)) (sym d.whole) (digit_spelled d.c d.rest e n d.is_digit d.no_null (ap digit_at (sym d.whole) ∙ h))
-escape_found w e n unended f h = absurd (let no : ⊥ = cc h in no)
-escape_found w e n (no_hex m) f h = absurd (let no : ⊥ = cc h in no)
-escape_found w e n (no_unicode m) f h = absurd (let no : ⊥ = cc h in no)
-escape_found w e n (passes m) f h = absurd (let no : ⊥ = cc h in no)
+    subst (λ w. ElementFront SpellsInTemplate e n (92 ∷ w)) (sym d.whole) (digit_spelled d.c d.rest e n d.is_digit d.no_null (ap digit_at (sym d.whole) ∙ h))
+escape_found w e n r f h = absurd (let no : ⊥ = cc h in no)
 
-line_spelled : (c : ℕ) (w : List ℕ) (e : Element) (n : ℕ) → is_line_terminator c ≡ true → raw_line c w ≡ element e n → TemplateFront e n (c ∷ w)
+line_spelled : (c : ℕ) (w : List ℕ) (e : Element) (n : ℕ) → is_line_terminator c ≡ true → raw_line c w ≡ element e n → ElementFront SpellsInTemplate e n (c ∷ w)
 line_spelled c w e n l h = go (c == 13 && front_is is_line_feed w) refl h
   where
-    go : (b : Bool) → (c == 13 && front_is is_line_feed w) ≡ b → cond b (element (written 10 writing.LineTerminator) 2) (element (written c writing.LineTerminator) 1) ≡ element e n → TemplateFront e n (c ∷ w)
-    go true f h = let t = line_front c w l true f in subst (TemplateFront e n) (sym t.whole) (give t.spelled t.rest (terminator t.spells) t.count h)
-    go false f h = let t = line_front c w l false f in subst (TemplateFront e n) (sym t.whole) (give t.spelled t.rest (terminator t.spells) t.count h)
+    go : (b : Bool) → (c == 13 && front_is is_line_feed w) ≡ b → cond b (element (written 10 writing.LineTerminator) 2) (element (written c writing.LineTerminator) 1) ≡ element e n → ElementFront SpellsInTemplate e n (c ∷ w)
+    go true f h = let t = line_front c w l true f in subst (ElementFront SpellsInTemplate e n) (sym t.whole) (stands_first t.spelled t.rest (terminator t.spells) t.count h)
+    go false f h = let t = line_front c w l false f in subst (ElementFront SpellsInTemplate e n) (sym t.whole) (stands_first t.spelled t.rest (terminator t.spells) t.count h)
 
 -- read → spelled
-pub template_spelled : (us : List ℕ) (e : Element) (n : ℕ) → template_front us ≡ element e n → TemplateFront e n us
+pub template_spelled : (us : List ℕ) (e : Element) (n : ℕ) → template_front us ≡ element e n → ElementFront SpellsInTemplate e n us
 template_spelled [] e n h = absurd (let no : ⊥ = cc h in no)
-template_spelled (c ∷ w) e n h = elim (chosen (c == 96) h) [
-  | inl p ↦ absurd (let no : ⊥ = cc p.1 in no)
-  | inr p ↦ elim (chosen (c == 92) p.1) [
-    | inl q ↦ rw (eqb-true c 92 q.0) (escape_found w e n (escape_at w) refl q.1)
-    | inr q ↦ elim (chosen (c == 36) q.1) [
-      | inl r ↦ elim (chosen (front_is is_open_brace w) r.1) [
-        | inl s ↦ absurd (let no : ⊥ = cc s.1 in no)
-        | inr s ↦ rw (eqb-true c 36 r.0) (give (36 ∷ []) w (dollar s.0) refl (ap (λ (c : ℕ). element (written c writing.Plain) 1) (sym (eqb-true c 36 r.0)) ∙ s.1))
-      ]
-      | inr r ↦ elim (chosen (is_line_terminator c) r.1) [
-        | inl s ↦ line_spelled c w e n s.0 s.1
-        | inr s ↦ give (c ∷ []) w (character (plain_is c p.0 q.0 r.0 s.0)) refl s.1
-      ]
-    ]
-  ]
-]
+template_spelled (c ∷ w) e n h =
+    template_rows (λ r. r ≡ element e n → ElementFront SpellsInTemplate e n (c ∷ w)) c w (λ q h. absurd (let no : ⊥ = cc h in no)) (λ b h. rw b (escape_found w e n (escape_at w) refl h)) (λ d o h. absurd (let no : ⊥ = cc h in no))
+    (λ d o h. rw d (stands_first (36 ∷ []) w (dollar o) refl (ap (λ (c : ℕ). element (written c writing.Plain) 1) (sym d) ∙ h))) (λ l h. line_spelled c w e n l h)
+    (λ q b d l h. stands_first (c ∷ []) w (character (plain_is c q b d l)) refl h) h

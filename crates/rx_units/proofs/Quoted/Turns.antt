@@ -1,14 +1,6 @@
 -- One more element is read, and what stays the same where elements lead on.
 use Rattle.std.proofs.Common.{◌≡◌, ℕ, ◌+◌, ◌≤◌, List, [], ◌∷◌, ◌++◌, length, take, drop, refl, sym, ap, subst, arith, length-append}
-use Rattle.std.proofs.Math.Seq.{drop-append_seam}
-use Rattle.std.proofs.lemmas.List.Elements.{All-drop}
-use Rattle.rx_units.specs.declared.code_point.CodePoint.{CodePoint}
-use Rattle.rx_units.specs.declared.quoted_text.element.Element.{Element}
-use Rattle.rx_units.specs.declared.quoted_text.literal.Literal.{Literal}
-use Rattle.rx_units.specs.declared.options.Options.{Options}
-use Rattle.rx_units.specs.Quoted.Fronts.{element, front}
-use Rattle.rx_units.specs.Quoted.Values.{element_units}
-use Rattle.rx_units.specs.Quoted.Texts.{Place, IsAllowed, Leads, no_element, one_more, byte_count}
+use Rattle.rx_units.proofs.Common.{drop-append_seam, All-drop, CodePoint, Element, Literal, Options, element, front, element_units, Place, IsAllowed, Leads, no_element, one_more, byte_count}
 use Rattle.rx_units.proofs.Quoted.Widths.{AreCharacters, taken}
 
 abbrev pub place : List CodePoint → ℕ → List ℕ → Place

@@ -1,28 +1,15 @@
 -- What an element takes of a text, and how large its value is.
 use Rattle.std.proofs.Common.{◌≡◌, ℕ, suc, zero, ◌+◌, ◌<◌, ◌≤◌, true, List, [], ◌∷◌, ◌++◌, length, take, drop, refl, sym, ap, ◌∙◌, subst, arith, inl, inr, length-append}
-use Rattle.std.proofs.lemmas.Bool.Decides.{nat_tests}
-use Rattle.std.proofs.lemmas.List.Elements.{All-cons, All-head, All-nil, All-tail, All-take}
-use Rattle.std.specs.Char.{len_utf8}
+use Rattle.rx_units.proofs.Common.{nat_tests, All-cons, All-head, All-nil, All-tail, All-take, len_utf8, length-encode, encodes-chars, scalars-chars, All, IsUtf8, chars, drop-append_seam, take-append_seam, encode, encodes, scalar, scalars, Writing, Element, Literal, SpellsTerminator}
+use Rattle.rx_units.proofs.Common.{alone, carriage_return, carriage_return_line_feed, SpellsEscape, single, non_escape, null, hexadecimal, four_digits, braced, continuation, SpellsElement, SpellsInString, SpellsInTemplate, legacy_octal, non_octal, dollar, terminator, zero_digit, character}
+use Rattle.rx_units.proofs.Common.{escape, element, front, byte_count, both, four_small, two_small}
 use Rattle.std.proofs.Math.Utf8.{scalar_cases}
-use Rattle.std.proofs.lemmas.Str.{length-encode, encodes-chars, scalars-chars}
-use Rattle.std.specs.Prelude.{All}
-use Rattle.std.specs.Str.{IsUtf8, chars}
-use Rattle.std.proofs.Math.Seq.{drop-append_seam, take-append_seam}
 use lib.ListN.{take-append-drop}
-use lib.Utf8.{encode, encodes, scalar, scalars}
-use Rattle.rx_units.specs.declared.quoted_text.element.Writing.{Writing}
-use Rattle.rx_units.specs.declared.quoted_text.element.Element.{Element}
-use Rattle.rx_units.specs.declared.quoted_text.literal.Literal.{Literal}
 use Rattle.rx_units.specs.declared.quoted_text.literal.Literal.TheVariants as literals
 use Rattle.rx_units.specs.declared.string_literal_parser.StringLiteralKind.TheVariants as quotes
-use Rattle.rx_units.specs.Quoted.Escapes.{SpellsTerminator, alone, carriage_return, carriage_return_line_feed, SpellsEscape, single, non_escape, null, hexadecimal, four_digits, braced, continuation}
-use Rattle.rx_units.specs.Quoted.Elements.{SpellsElement, SpellsInString, SpellsInTemplate, legacy_octal, non_octal, dollar, terminator, zero_digit, digit, character, escape}
-use Rattle.rx_units.specs.Quoted.Fronts.{element, front}
-use Rattle.rx_units.specs.Quoted.Texts.{byte_count}
+use Rattle.rx_units.specs.Quoted.Elements.{digit}
 use Rattle.rx_units.proofs.Quoted.Fronts.{front_spelled}
 use Rattle.rx_units.proofs.Quoted.Rows.{some_characters}
-use Rattle.rx_units.proofs.Choices.{both}
-use Rattle.rx_units.proofs.Digits.{four_small, two_small}
 use Rattle.rx_units.proofs.OctalEscapes.{octal_value_small}
 
 abbrev pub AreCharacters : List ℕ → Type 0
@@ -33,8 +20,7 @@ first_small c w h = All-head (λ c. c ≤ 0x10FFFF) c w h
 
 terminator_small : (c : ℕ) (w rest : List ℕ) → SpellsTerminator c w rest → c ≤ 0x10FFFF
 terminator_small c _ rest (alone h) = grind (arith, nat_tests)
-terminator_small _ _ rest (carriage_return h) = omega arith
-terminator_small _ _ rest carriage_return_line_feed = omega arith
+terminator_small _ _ rest _ = omega arith
 
 escape_small : (v : ℕ) (k : Writing) (w rest : List ℕ) → SpellsEscape v k w rest → AreCharacters w → v ≤ 0x10FFFF
 escape_small v _ _ rest (single {c} h) a = grind (arith, nat_tests)

@@ -1,13 +1,7 @@
 use Rattle.std.proofs.Common.{◌≡◌, ◌≤◌, ◌==◌, ◌&&◌, ◌∙◌, true, length, inr, sym, subst, arith}
-use Rattle.std.proofs.lemmas.List.Elements.{All-tail}
-use Rattle.std.specs.Prelude.{All}
-use Rattle.rx_base.specs.declared.span.Span.{Span}
+use Rattle.rx_units.proofs.Common.{All-tail, All, Span, StringFault, quote_of, IsStringFault, unopened, is_closer, seen_front}
 use Rattle.rx_units.specs.declared.quoted_text.literal.Literal.TheVariants as literals
-use Rattle.rx_units.specs.declared.string_literal_parser.StringFault.{StringFault}
 use Rattle.rx_units.specs.declared.string_literal_parser.StringFault.TheVariants as string_fault
-use Rattle.rx_units.specs.Quoted.Elements.{quote_of}
-use Rattle.rx_units.specs.Quoted.Faults.{IsStringFault, unopened}
-use Rattle.rx_units.specs.Quoted.Found.{is_closer, seen_front}
 use Rattle.rx_units.proofs.Quoted.Outcomes.{string_fault_stands, stop_reached, decoded_there, ends_after, whole_span}
 use Rattle.rx_units.proofs.string_literal_parser.decode_text.Goals as goal
 

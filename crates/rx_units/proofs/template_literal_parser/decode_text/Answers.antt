@@ -1,12 +1,7 @@
 use Rattle.std.proofs.Common.{◌≡◌, ◌≤◌, ◌==◌, ◌&&◌, ◌∙◌, true, length, inr, sym, subst, arith}
-use Rattle.std.proofs.lemmas.List.Elements.{All-tail}
-use Rattle.std.specs.Prelude.{All}
-use Rattle.rx_base.specs.declared.span.Span.{Span}
+use Rattle.rx_units.proofs.Common.{All-tail, All, Span, TemplateFault, IsTemplateFault, unopened, is_closer, seen_front}
 use Rattle.rx_units.specs.declared.quoted_text.literal.Literal.TheVariants as literals
-use Rattle.rx_units.specs.declared.template_literal_parser.TemplateFault.{TemplateFault}
 use Rattle.rx_units.specs.declared.template_literal_parser.TemplateFault.TheVariants as template_fault
-use Rattle.rx_units.specs.Quoted.Faults.{IsTemplateFault, unopened}
-use Rattle.rx_units.specs.Quoted.Found.{is_closer, seen_front}
 use Rattle.rx_units.proofs.Quoted.Outcomes.{stop_reached, decoded_there, ends_after, whole_span}
 use Rattle.rx_units.proofs.Quoted.TemplateFaults.{template_fault_stands}
 use Rattle.rx_units.proofs.template_literal_parser.decode_text.Goals as goal

@@ -1,9 +1,7 @@
 use Rattle.std.proofs.Common.{sym, ◌∙◌}
-use Rattle.std.proofs.lemmas.Bool.{MatchBool-at_true}
+use Rattle.rx_units.proofs.Common.{MatchBool-at_true, chars-IsAscii, IsAscii, IsNotAscii}
 use Rattle.std.proofs.lemmas.Iterator.{items_from_collect, YieldsList-from_chars}
 use Rattle.std.proofs.lemmas.Result.{IfOk-weaker}
-use Rattle.std.proofs.lemmas.Str.{chars-IsAscii}
-use Rattle.std.specs.Str.{IsAscii, IsNotAscii}
 use Rattle.rx_units.proofs.quoted_text.reading.characters.Goals as goal
 
 pub returns-then-is_ascii : goal.returns-then-is_ascii

@@ -1,7 +1,5 @@
 use Rattle.std.proofs.Common.{◌≡◌, ◌+◌, length}
-use Rattle.rx_units.specs.declared.options.Options.{Options}
-use Rattle.rx_units.specs.declared.quoted_text.literal.Literal.{Literal}
-use Rattle.rx_units.specs.Quoted.Texts.{Leads, byte_count}
+use Rattle.rx_units.proofs.Common.{Options, Literal, Leads, byte_count}
 use Rattle.rx_units.proofs.quoted_text.reading.push_plain.Given as goal
 
 abbrev pub invariant-loop-value : goal.invariant-loop-value

@@ -1,6 +1,5 @@
 use Rattle.std.proofs.Common.{◌≤◌, ℕ, List, ap, sym, subst, ◌∙◌, arith}
-use Rattle.std.specs.Prelude.{All}
-use Rattle.rx_units.specs.Quoted.Texts.{Given, byte_count}
+use Rattle.rx_units.proofs.Common.{All, Given, byte_count}
 use Rattle.rx_units.proofs.Quoted.Widths.{byte_text, text_characters}
 use Rattle.rx_units.proofs.quoted_text.reading.Source.new.Goals as goal
 

@@ -3,7 +3,7 @@ use Rattle.std.specs.Str.{chars}
 use Rattle.rx_units.specs.Units.{literal_units}
 use Rattle.rx_units.proofs.CodePoints.{literal_code_points}
 use Rattle.rx_units.proofs.Ends.{ends_within, literal_ends}
-use Rattle.rx_units.proofs.reader.Reader.initialize.Goals as goal
+use Rattle.rx_units.proofs.reader.Reader+List+CodePoint.initialize.Goals as goal
 
 pub at_start-requires-clause-start : goal.at_start-requires-clause-start
 at_start-requires-clause-start c = IsCharBoundary-start c.args.source_text.now c.utf8.source_text

@@ -2,7 +2,7 @@ use Rattle.std.proofs.lemmas.Result.{err_from_is_err_and}
 use Rattle.rx_units.proofs.DecodedUnits.{decoded_code_points, decoded_ends, decoded_start}
 use Rattle.rx_units.proofs.Ends.{ends_within}
 use Rattle.rx_units.proofs.Quoted.Widths.{text_characters}
-use Rattle.rx_units.proofs.reader.Reader.read_quoted.Goals as goal
+use Rattle.rx_units.proofs.reader.Reader+List+CodePoint.read_quoted.Goals as goal
 
 pub returns-in_err-units-clause-decodes : goal.returns-in_err-units-clause-decodes
 returns-in_err-units-clause-decodes c = λ units d.

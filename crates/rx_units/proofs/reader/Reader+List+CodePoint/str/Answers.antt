@@ -1,7 +1,7 @@
 use Rattle.std.proofs.Common.{subst, sym}
 use Rattle.std.specs.Str.{IsCharBoundary}
 use Rattle.rx_units.proofs.Ends.{offset_is_cut}
-use Rattle.rx_units.proofs.reader.Reader.str.Goals as goal
+use Rattle.rx_units.proofs.reader.Reader+List+CodePoint.str.Goals as goal
 
 pub range-part-requires-clause-start_boundary : goal.range-part-requires-clause-start_boundary
 range-part-requires-clause-start_boundary c = λ _.
