@@ -11,4 +11,4 @@ pub mod GroupSteps
 pub mod KnownNames
 pub mod Passes
 pub mod Captures
-pub mod Offsets
+pub mod UnitRuns

@@ -1,49 +1,55 @@
 -- Steps of the loop that reads a name, and what is left of a text at a place.
-use Rattle.std.proofs.Common.{◌≡◌, refl, ap, sym, ◌∙◌, ℕ, ◌+◌, ◌-◌, ◌<◌, true, false, cond, ◌==◌, Some, None, List, [], ◌∷◌, ◌++◌, take, drop, get_or, append_assoc, append-nil, length, length-drop, ◌≤◌, arith}
+use Rattle.std.proofs.Common.{◌≡◌, refl, ap, sym, ◌∙◌, ℕ, ◌+◌, ◌<◌, true, false, cond, ◌==◌, Some, None, List, [], ◌∷◌, ◌++◌, map, take, drop, get_or, append_assoc, append-nil, length, length-drop, arith}
+use Rattle.std.proofs.Math.Bool.{and-true}
 use Rattle.std.proofs.Math.Seq.{drop-length}
-use Rattle.std.proofs.lemmas.List.{at_drop_more, drop-map, length-map, map-append, take_all, take_more}
+use Rattle.std.proofs.lemmas.List.{at_drop_more, drop-map, length-map, map_more, take-map}
 use Rattle.rx_units.specs.declared.code_point.CodePoint.{CodePoint}
+use Rattle.rx_units.specs.Cursor.{begins}
+use Rattle.rx_units.specs.Stored.{values_of}
 use Rattle.rx_units.specs.Units.{values}
-use Rattle.rx_model.specs.FirstPass.Marks.{before_close, has_close}
+use Rattle.rx_model.specs.FirstPass.Marks.{before_close, has_close, starts}
 use Rattle.rx_scan.specs.MarkReading.{closed_part}
 
 -- A loop has taken a step in each of so many turns.
 abbrev pub HasStepped : ℕ → ℕ → ℕ → Type 0
 HasStepped old new turns = new ≡ old + turns
 
--- before the place no `>` stands
-pub Passed : List CodePoint → ℕ → Type 0
-Passed us i =
-    (before_close (values us) ≡ values (take i us) ++ before_close (values (drop i us))) × (has_close (values us) ≡ has_close (values (drop i us)))
+module _ {Item : Type 0} (value : Item → ℕ) where
+  -- what is left at a place begins with the item there
+  pub value_at : {vs : List ℕ} {u : ℕ} (xs : List Item) (i : ℕ) (d : Item) → vs ≡ values_of value xs → i < length xs → u ≡ value (get_or xs i d) → drop i vs ≡ u ∷ drop (i + 1) vs
+  value_at xs i d e h is =
+      rw (e, is) (drop-map value i xs ∙ at_drop_more (map value) xs i d h ∙ ap (λ us. value (get_or xs i d) ∷ us) (sym (drop-map value (i + 1) xs)))
 
-pub values_at : (us : List CodePoint) (i : ℕ) (d : CodePoint) → i < length us → values (drop i us) ≡ (get_or us i d).value ∷ values (drop (i + 1) us)
-values_at us i d h = at_drop_more values us i d h
+  -- before the place no `>` stands
+  pub Passed : List Item → ℕ → Type 0
+  Passed xs i =
+      (before_close (map value xs) ≡ map value (take i xs) ++ before_close (map value (drop i xs))) × (has_close (map value xs) ≡ has_close (map value (drop i xs)))
 
-pub passed_none : (us : List CodePoint) → Passed us 0
-unfolding Passed
-passed_none us = (refl, refl)
+  pub passed_none : (xs : List Item) → Passed xs 0
+  unfolding Passed
+  passed_none xs = (refl, refl)
 
-pub passed_more : (us : List CodePoint) (i : ℕ) (d : CodePoint) → i < length us → ((get_or us i d).value == 62) ≡ false → Passed us i → Passed us (i + 1)
-unfolding Passed
-passed_more us i d h n p =
-    let e = values_at us i d h in
-    let u = (get_or us i d).value in let rest = values (drop (i + 1) us) in
-    let b : before_close (values (drop i us)) ≡ u ∷ before_close rest = ap before_close e ∙ ap (λ b. cond b [] (u ∷ before_close rest)) n in
-    let c : has_close (values (drop i us)) ≡ has_close rest = ap has_close e ∙ ap (λ b. cond b true (has_close rest)) n in
-    let t : values (take (i + 1) us) ≡ values (take i us) ++ (u ∷ []) = ap values (take_more us i d h) ∙ map-append (λ (u : CodePoint). u.value) (take i us) (get_or us i d ∷ []) in
-    (p.0 ∙ ap (λ z. values (take i us) ++ z) b ∙ sym (append_assoc (values (take i us)) (u ∷ []) (before_close rest)) ∙ ap (λ z. z ++ before_close rest) (sym t), p.1 ∙ c)
+  pub passed_more : (xs : List Item) (i : ℕ) (d : Item) → i < length xs → (value (get_or xs i d) == 62) ≡ false → Passed xs i → Passed xs (i + 1)
+  unfolding Passed
+  passed_more xs i d h n p =
+      let e = at_drop_more (map value) xs i d h in
+      let u = value (get_or xs i d) in let rest = map value (drop (i + 1) xs) in
+      let b : before_close (map value (drop i xs)) ≡ u ∷ before_close rest = ap before_close e ∙ ap (λ b. cond b [] (u ∷ before_close rest)) n in
+      let c : has_close (map value (drop i xs)) ≡ has_close rest = ap has_close e ∙ ap (λ b. cond b true (has_close rest)) n in
+      let t : map value (take (i + 1) xs) ≡ map value (take i xs) ++ (u ∷ []) = map_more value xs i d h in
+      (p.0 ∙ ap (λ z. map value (take i xs) ++ z) b ∙ sym (append_assoc (map value (take i xs)) (u ∷ []) (before_close rest)) ∙ ap (λ z. z ++ before_close rest) (sym t), p.1 ∙ c)
 
-pub closed_found : (us : List CodePoint) (i : ℕ) (d : CodePoint) → i < length us → (get_or us i d).value ≡ 62 → Passed us i → Some (values (take i us)) ≡ closed_part (values us)
-unfolding Passed
-closed_found us i d h n p =
-    let e : values (drop i us) ≡ 62 ∷ values (drop (i + 1) us) = values_at us i d h ∙ ap (λ u. u ∷ values (drop (i + 1) us)) n in
-    let b : before_close (values us) ≡ values (take i us) = p.0 ∙ ap (λ z. values (take i us) ++ before_close z) e ∙ append-nil (values (take i us)) in
-    let c : has_close (values us) ≡ true = p.1 ∙ ap has_close e in
-    rw (c, b) refl
+  pub closed_found : {us front : List ℕ} (xs : List Item) (i : ℕ) (d : Item) → us ≡ values_of value xs → front ≡ take i us → i < length xs → value (get_or xs i d) ≡ 62 → Passed xs i → Some front ≡ closed_part us
+  unfolding Passed
+  closed_found xs i d us_are front_is h n p =
+      let e : map value (drop i xs) ≡ 62 ∷ map value (drop (i + 1) xs) = at_drop_more (map value) xs i d h ∙ ap (λ u. u ∷ map value (drop (i + 1) xs)) n in
+      let b : before_close (map value xs) ≡ map value (take i xs) = p.0 ∙ ap (λ z. map value (take i xs) ++ before_close z) e ∙ append-nil (map value (take i xs)) in
+      let c : has_close (map value xs) ≡ true = p.1 ∙ ap has_close e in
+      rw (front_is, us_are, c, b, take-map value i xs) refl
 
-pub closed_none : (us : List CodePoint) → Passed us (length us) → None ≡ closed_part (values us)
-unfolding Passed
-closed_none us p = let c : has_close (values us) ≡ false = p.1 ∙ ap has_close (ap values (drop-length us)) in rw c refl
+  pub closed_none : {us : List ℕ} (xs : List Item) → us ≡ values_of value xs → Passed xs (length xs) → None ≡ closed_part us
+  unfolding Passed
+  closed_none xs us_are p = let c : has_close (map value xs) ≡ false = p.1 ∙ ap has_close (ap (map value) (drop-length xs)) in rw (us_are, c) refl
 
 pub values_length : (us : List CodePoint) → length (values us) ≡ length us
 values_length us = length-map us (λ u. u.value)
@@ -51,11 +57,11 @@ values_length us = length-map us (λ u. u.value)
 pub values_drop : (n : ℕ) (us : List CodePoint) → values (drop n us) ≡ drop n (values us)
 values_drop n us = sym (drop-map (λ u. u.value) n us)
 
--- what is left at a place, and the unit that stands first there
-module _ (us : List CodePoint) where
-  pub left_length : {vs : List CodePoint} (at : ℕ) → vs ≡ drop at us → length vs ≡ length us - at
-  left_length {vs} at left = ap length left ∙ length-drop at us
+-- how many units there are, where one stands at a place
+pub units_left : (place : ℕ) (us vs : List CodePoint) (u : ℕ) → drop place (values us) ≡ u ∷ values vs → length us ≡ place + (length vs + 1)
+units_left place us vs u e = omega (arith, ap length e, length-drop place (values us), values_length us, values_length vs)
 
-  pub left_front : {vs : List CodePoint} (at : ℕ) (d : CodePoint) → vs ≡ drop at us → 1 ≤ length vs → drop at (values us) ≡ (get_or vs 0 d).value ∷ values (take (length vs - 1) (drop 1 vs))
-  left_front {vs} at d left some =
-      sym (values_drop at us) ∙ ap values (sym left) ∙ values_at vs 0 d some ∙ ap (λ ws. (get_or vs 0 d).value ∷ values ws) (sym (take_all (length vs - 1) (drop 1 vs) (omega (arith, length-drop 1 vs))))
+-- a character that does not stand first
+pub starts_not : (c : ℕ) (us : List CodePoint) → begins (c ∷ []) us ≡ false → starts c (values us) ≡ false
+starts_not c [] h = refl
+starts_not c (u ∷ us) h = sym (and-true (u.value == c)) ∙ h

@@ -6,11 +6,8 @@ use Rattle.std.specs.Str.{IsUtf8, bytes_eq, chars}
 use Rattle.std.proofs.lemmas.Bool.{cases_lt, false≢true, ltb-true, lt-ltb, leb-true, le-leb, not-true, cases_Bool, or_cases}
 use Rattle.std.proofs.lemmas.Bool.Decides.{nat_tests}
 use Rattle.std.proofs.lemmas.List.Folds.{list_any-append}
-use Rattle.std.proofs.Math.Seq.{drop-length}
 use Rattle.std.proofs.Math.Bool.{or-true}
 use Rattle.rx_base.specs.Texts.{are_same, is_among}
-use Rattle.rx_units.specs.declared.code_point.CodePoint.{CodePoint}
-use Rattle.rx_units.specs.Units.{values}
 use Rattle.rx_units.proofs.Choices.{Some-inj, both}
 use Rattle.rx_model.specs.declared.mode.Mode.{Mode}
 use Rattle.rx_model.specs.FirstPass.GroupStates.{GroupState, Hides, Nests, group_states, step}
@@ -25,7 +22,6 @@ use Rattle.rx_scan.specs.declared.first_pass.FirstPass.{FirstPass}
 use Rattle.rx_scan.specs.declared.first_pass.PassFault.{PassFault}
 use Rattle.rx_scan.specs.declared.first_pass.PassFault.TheVariants.{OutOfMemory, Duplicated}
 use Rattle.rx_scan.specs.declared.last_openings.LastOpenings.{LastOpenings}
-use Rattle.rx_scan.proofs.MarkSteps.{values_at, values_drop, values_length}
 use Rattle.rx_scan.proofs.KnownNames.{same_name_Decides, same_text}
 
 after_drop : (mode : Mode) (n : ℕ) (us : List ℕ) → marks_following mode n us ≡ marks mode (drop n us)
@@ -297,10 +293,9 @@ unfolding mark_front
 plain_front mode u us h = grind (arith, nat_tests)
 
 -- over a unit that opens and closes nothing
-pub passed : {mode : Mode} {duplicate_names : Bool} (us : List CodePoint) (at : ℕ) {k : ℕ} {s : FirstPass} (d : CodePoint) → at < length us → is_plain (get_or us at d).value ≡ true → IsAt mode duplicate_names (values us) at k s → IsAt mode duplicate_names (values us) (at + 1) (k + 1) s
-passed {mode} {duplicate_names} us at {k} {s} d inside plain w =
-    let more = values (drop (at + 1) us) in
-    advanced mode duplicate_names (values us) at k _ more (other, 0) s s (sym (values_drop at us) ∙ values_at us at d inside) (sym (plain_front mode _ more plain)) (omega (arith, values_length us)) (unmoved s at k w.knows) w
+pub passed : {mode : Mode} {duplicate_names : Bool} (us : List ℕ) (at u : ℕ) {k : ℕ} {s : FirstPass} → drop at us ≡ u ∷ drop (at + 1) us → is_plain u ≡ true → at < length us → IsAt mode duplicate_names us at k s → IsAt mode duplicate_names us (at + 1) (k + 1) s
+passed {mode} {duplicate_names} us at u {k} {s} here plain inside w =
+    advanced mode duplicate_names us at k u (drop (at + 1) us) (other, 0) s s here (sym (plain_front mode u (drop (at + 1) us) plain)) (omega arith) (unmoved s at k w.knows) w
 
 places_at : (mode : Mode) (us : List ℕ) (at k : ℕ) (m : Mark) → mark_place mode us k ≡ at → mark_at (marks mode us) k ≡ m → (at + 3, at + 3 + name_length m) ≡ name_places mode us k
 places_at mode us at k m pl here = ap (λ z. (z + 3, z + 3 + name_length m)) (sym pl) ∙ ap (λ z. (mark_place mode us k + 3, mark_place mode us k + 3 + name_length z)) (sym here)
@@ -348,14 +343,11 @@ nothing_at (m ∷ ms) zero e b l = cc
 nothing_at (m ∷ ms) (suc k) e zero l = absurd (omega arith)
 nothing_at (m ∷ ms) (suc k) e (suc b) l = nothing_at ms k e b (omega arith)
 
-at_end : (mode : Mode) (duplicate_names : Bool) (us : List ℕ) (at k : ℕ) (s : FirstPass) → length us ≤ at → IsAt mode duplicate_names us at k s → drop at us ≡ []
-at_end mode duplicate_names us at k s le w = let h = w.within in let e : at ≡ length us = omega arith in ap (λ j. drop j us) e ∙ drop-length us
-
-pub all_clean : (mode : Mode) (duplicate_names : Bool) (us : List ℕ) (at k : ℕ) (s : FirstPass) → length us ≤ at → IsAt mode duplicate_names us at k s → (a b : ℕ) → Clash mode duplicate_names (marks mode us) a b → ⊥
-all_clean mode duplicate_names us at k s le w a b c = elim (cases_lt b k) [
+pub all_clean : (mode : Mode) (duplicate_names : Bool) (us : List ℕ) (at k : ℕ) (s : FirstPass) → drop at us ≡ [] → IsAt mode duplicate_names us at k s → (a b : ℕ) → Clash mode duplicate_names (marks mode us) a b → ⊥
+all_clean mode duplicate_names us at k s none w a b c = elim (cases_lt b k) [
   | inl l ↦ w.clean a b l c
   | inr l ↦
-      let d : drop k (marks mode us) ≡ [] = w.rest ∙ ap (marks mode) (at_end mode duplicate_names us at k s le w) in
+      let d : drop k (marks mode us) ≡ [] = w.rest ∙ ap (marks mode) none in
       let m = nothing_at (marks mode us) k d b l in let q : None ≡ Some c.name = sym (ap (mark_name mode) m) ∙ c.second in cc
 ]
 

@@ -1,31 +1,26 @@
 -- Single steps of decoding a unicode escape.
 use Rattle.std.proofs.Common.{◌≡◌, ◌↔◌, ◌<◌, ℕ, List, [], ◌∷◌, length, None, refl, arith}
-use Rattle.rx_units.specs.declared.code_point.CodePoint.{CodePoint}
-use Rattle.rx_units.specs.Units.{values}
-use Rattle.rx_model.specs.Characters.Decoding.{four_at, trail_at, value, overflow}
+use Rattle.rx_units.specs.Stored.{values_of}
+use Rattle.rx_model.specs.Characters.Decoding.{four_at, value, overflow}
 use Rattle.rx_model.specs.Characters.LegacyEscapes.{four_next}
 use Rattle.rx_scan.specs.declared.unicode_escape.UnicodeEscape.{UnicodeEscape}
 use Rattle.rx_scan.specs.declared.unicode_escape.UnicodeEscape.TheVariants as escape
 use Rattle.rx_scan.specs.EscapeDecoding.{seen_escape}
 
-pub short_four : (us : List CodePoint) → length us < 4 → four_at (values us) ≡ None
-short_four [] h = refl
-short_four (u ∷ []) h = refl
-short_four (u ∷ v ∷ []) h = refl
-short_four (u ∷ v ∷ w ∷ []) h = refl
-short_four (u ∷ v ∷ w ∷ x ∷ us) h = absurd (omega arith)
+module _ {Item : Type 0} (value : Item → ℕ) where
+  pub short_four : (us : List Item) → length us < 4 → four_at (values_of value us) ≡ None
+  short_four [] h = refl
+  short_four (u ∷ []) h = refl
+  short_four (u ∷ v ∷ []) h = refl
+  short_four (u ∷ v ∷ w ∷ []) h = refl
+  short_four (u ∷ v ∷ w ∷ x ∷ us) h = absurd (omega arith)
 
-pub short_next : (us : List CodePoint) → length us < 4 → four_next (values us) ≡ None
-short_next [] h = refl
-short_next (u ∷ []) h = refl
-short_next (u ∷ v ∷ []) h = refl
-short_next (u ∷ v ∷ w ∷ []) h = refl
-short_next (u ∷ v ∷ w ∷ x ∷ us) h = absurd (omega arith)
-
-pub short_trail : (us : List CodePoint) → length us < 2 → trail_at (values us) ≡ None
-short_trail [] h = refl
-short_trail (u ∷ []) h = refl
-short_trail (u ∷ v ∷ us) h = absurd (omega arith)
+  pub short_next : (us : List Item) → length us < 4 → four_next (values_of value us) ≡ None
+  short_next [] h = refl
+  short_next (u ∷ []) h = refl
+  short_next (u ∷ v ∷ []) h = refl
+  short_next (u ∷ v ∷ w ∷ []) h = refl
+  short_next (u ∷ v ∷ w ∷ x ∷ us) h = absurd (omega arith)
 
 pub seen_value : (e : UnicodeEscape) (v n : ℕ) → (e ≡ escape.Value v n) ↔ (seen_escape e ≡ value v n)
 seen_value (escape.Value a b) v n = (λ h. let k : value a b ≡ value v n = cc h in k, λ h. let k : escape.Value a b ≡ escape.Value v n = cc h in k)

@@ -1,6 +1,5 @@
 -- What the reader of marks answers, as marks of the text.
 use Rattle.std.specs.Prelude.{ℕ, ◌==◌, ◌||◌, Bool, not, Option, Some, None, List, if◌then◌else◌}
-use Rattle.std.specs.Borrow.{Bor}
 use Rattle.rx_base.specs.Ascii as ascii
 use Rattle.rx_units.specs.declared.code_point.CodePoint.{CodePoint}
 use Rattle.rx_units.specs.Units.{values}
@@ -14,12 +13,12 @@ abbrev pub closed_part : List ℕ → Option (List ℕ)
 closed_part us = if has_close us then Some (before_close us) else None
 
 -- a capturing opening that was read
-abbrev pub seen_capturing : Option (Bor (List CodePoint)) → model.Mark
+abbrev pub seen_capturing : Option (List CodePoint) → model.Mark
 seen_capturing None = model.capturing None
-seen_capturing (Some units) = model.capturing (Some (values units.now))
+seen_capturing (Some units) = model.capturing (Some (values units))
 
 -- the mark that was read
-abbrev pub seen_mark : Mark → model.Mark
+abbrev pub seen_mark : {U : Type 0} → Mark U → model.Mark
 seen_mark mark.Other = model.other
 seen_mark mark.Bar = model.bar
 seen_mark mark.Closer = model.closer
@@ -27,7 +26,7 @@ seen_mark mark.Quiet = model.quiet
 seen_mark (mark.Capturing units) = seen_capturing units
 
 -- with how many units it takes
-abbrev pub seen_front : Mark × ℕ → model.Mark × ℕ
+abbrev pub seen_front : {U : Type 0} → Mark U × ℕ → model.Mark × ℕ
 seen_front front = (seen_mark front.0, front.1)
 
 -- whether a unit is a mark of its own that opens and closes nothing: it begins no escape, class, opening, closer or bar

@@ -1,21 +1,25 @@
-ghost use Rattle.std.specs.Prelude.{◌≡◌, ◌+◌, ◌<◌, ◌≤◌, ◌^◌, ℕ, List, None, Some, IfOk, IfErr, OnOk, length, map, option_map};
+ghost use Rattle.std.specs.Prelude.{◌≡◌, Bool, ◌+◌, ◌-◌, ◌<◌, ◌≤◌, ◌^◌, ℕ, List, None, Some, IfOk, IfErr, OnOk, length, map, option_map};
 ghost use Rattle.std.specs.Str.{chars};
 ghost use Rattle.rx_base.specs.Texts.{are_same};
 ghost use Rattle.rx_units.specs.Units.{values};
 ghost use Rattle.rx_model.specs.FirstPass.GroupStates.{Nests};
 ghost use Rattle.rx_model.specs.FirstPass.Marks.{name_length};
+ghost use Rattle.rx_model.specs.declared.mode.Mode.{Mode as ModeValue};
 ghost use Rattle.rx_model.specs.Refusals.Reached.{HasNoClash, text_groups, text_names};
 ghost use Rattle.rx_scan.specs.MarkReading.{seen_mark, seen_capturing};
 ghost use Rattle.rx_scan.specs.OpenGroups.{group_states_of, hides, states_that_part};
+ghost use Rattle.rx_scan.specs.Walked.{IsAt};
+ghost use Rattle.rx_scan.specs.declared.first_pass.FirstPass.{FirstPass as PassValue};
 ghost use Rattle.rx_scan.specs.FirstPass.{Captures, ClashesWith, IsPassFault, IsStart, KnowsLast, LastTells, Refuses, Steps, entries, entry_of, first_clash, parts_of, span_of, with_name};
 
+use crate::Names;
+use crate::group_name::spelled_name;
 use crate::last_openings::LastOpenings;
 use crate::mark::{Mark, is_plain, read_mark};
 use crate::open_groups::OpenGroups;
-use crate::{Names, capturing_group_name};
 use rx_base::{Counter, List, OutOfMemory, Text};
 use rx_model::Mode;
-use rx_units::{CodePoint, tail};
+use rx_units::{Ahead, Unit};
 use std::alloc::Global;
 
 /// A named opening: its index among the marks, its name, and the places before and after the units of the name.
@@ -68,9 +72,9 @@ impl FirstPass {
     /// names that clash (22.2.1.1): any two, or where two groups may have one name, two that no bar parts. Counts each unit that it goes over.
     // Why: docs/DECISIONS.md, 61.
     #[tactic(auto, unfolding(rx_model::specs::Refusals::Reached::text_groups, rx_model::specs::Refusals::Reached::text_names))]
-    pub fn over<C: Counter>(
+    pub fn over<U: Unit, C: Counter>(
         alloc: Global,
-        units: &[CodePoint],
+        units: &Ahead<'_, U>,
         mode: Mode,
         duplicate_names: bool,
         steps: &mut C,
@@ -83,24 +87,20 @@ impl FirstPass {
         ensures all { OnOk result (C.count steps.new ≡ C.count steps.old + length units.now) }
         ensures most { C.count steps.new ≤ C.count steps.old + length units.now }
     {
+        // Why: docs/DECISIONS.md, 131.
+        let _ = units.len();
         let mut pass = FirstPass::new(alloc, mode, duplicate_names);
-        let mut place = 0usize;
         // How many units before the place begin no mark. Each of the others begins one.
         let mut inner = 0usize;
-        loop {
-            while place < units.len() && is_plain(units[place].value) {
-                steps.tick();
-                place += 1;
-            }
-            let [unit, following @ ..] = tail(units, place) else {
-                return Ok(pass);
-            };
+        let mut place = plain_end(units, 0, steps);
+        while let Some((unit, following)) = units.from(place).split_first() {
             steps.tick();
-            let (mark, more) = read_mark(unit.value, following, mode, steps);
+            let (mark, more) = read_mark(unit, &following, mode, steps);
             pass.step(alloc, mark, place, place - inner)?;
-            place += more + 1;
             inner += more;
+            place = plain_end(units, place + (more + 1), steps);
         }
+        Ok(pass)
     }
 
     fn new(alloc: Global, mode: Mode, duplicate_names: bool) -> FirstPass
@@ -118,10 +118,10 @@ impl FirstPass {
     }
 
     /// Goes over the mark with this index, which begins at this place.
-    fn step(
+    fn step<U: Unit>(
         &mut self,
         alloc: Global,
-        mark: Mark<'_>,
+        mark: Mark<'_, U>,
         place: usize,
         index: usize,
     ) -> Result<(), PassFault>
@@ -145,10 +145,10 @@ impl FirstPass {
     }
 
     /// A group opens that captures.
-    fn capture(
+    fn capture<U: Unit>(
         &mut self,
         alloc: Global,
-        units: Option<&[CodePoint]>,
+        units: Option<Ahead<'_, U>>,
         place: usize,
         index: usize,
     ) -> Result<(), PassFault>
@@ -166,7 +166,7 @@ impl FirstPass {
         };
         let start = place + 3;
         let end = start + units.len();
-        match capturing_group_name(alloc, units, self.mode.is_unicode())? {
+        match spelled_name(alloc, &units, self.mode.is_unicode())? {
             None => self.capture_unnamed(index),
             Some(name) => {
                 let opening = Opening {
@@ -249,6 +249,25 @@ impl FirstPass {
             }
         }
     }
+}
+
+/// The first place from this one on where no plain unit stands, or the end. Counts each unit before it.
+#[inline(always)]
+fn plain_end<U: Unit, C: Counter>(units: &Ahead<'_, U>, place: usize, steps: &mut C) -> usize
+    requires { place ≤ length units.now }
+    ensures from { place ≤ result }
+    ensures within { result ≤ length units.now }
+    ensures passed { (mode : ModeValue) (duplicate_names : Bool) (inner : ℕ) (pass : PassValue) → inner ≤ place → IsAt mode duplicate_names (values units.now) place (place - inner) pass
+        → IsAt mode duplicate_names (values units.now) result (result - inner) pass }
+    ensures steps { C.count steps.new ≡ C.count steps.old + (result - place) }
+{
+    let items = units.items();
+    let mut end = place;
+    while end < items.len() && is_plain(items[end].value()) {
+        steps.tick();
+        end += 1;
+    }
+    end
 }
 
 /// Whether the mark with this index is in an alternative that has ended, of a group that is open, where two groups may have one name.

@@ -17,7 +17,7 @@ use rx_base::{
 use rx_tables::{
     is_identifier_part_char, is_identifier_start_char, is_unicode_id_continue, is_unicode_id_start,
 };
-use rx_units::CodePoint;
+use rx_units::{Ahead, CodePoint, Unit};
 use std::alloc::Global;
 use std::marker::Brand;
 use std::sync::ledger::{Blank, Ledger};
@@ -31,14 +31,25 @@ pub fn capturing_group_name(
 ) -> Result<Option<Text>, OutOfMemory>
     ensures { IfOk result (IsNameOf unicode_mode (values units.now)) }
 {
-    name_alone::<Brand>(alloc, units, unicode_mode, Blank::new(1))
+    spelled_name(alloc, &Ahead::of(units), unicode_mode)
+}
+
+/// Reads a name as `capturing_group_name` does, however the units are stored.
+pub(crate) fn spelled_name<U: Unit>(
+    alloc: Global,
+    units: &Ahead<'_, U>,
+    unicode_mode: bool,
+) -> Result<Option<Text>, OutOfMemory>
+    ensures { IfOk result (IsNameOf unicode_mode (values units.now)) }
+{
+    name_alone::<U, Brand>(alloc, units, unicode_mode, Blank::new(1))
 }
 
 /// The same, with a counter of its own.
 // Why: docs/DECISIONS.md, 98.
-fn name_alone<L: Ledger>(
+fn name_alone<U: Unit, L: Ledger>(
     alloc: Global,
-    units: &[CodePoint],
+    units: &Ahead<'_, U>,
     unicode_mode: bool,
     blank: Blank,
 ) -> Result<Option<Text>, OutOfMemory>
@@ -52,9 +63,9 @@ fn name_alone<L: Ledger>(
 
 /// Reads a name as `capturing_group_name` does. Counts each of its characters, and the digits of an escape as `decode_counted` does.
 #[tactic(auto, using(crate::proofs::GroupNames::is_name_of))]
-pub fn capturing_group_name_counted<C: Counter>(
+pub fn capturing_group_name_counted<U: Unit, C: Counter>(
     alloc: Global,
-    units: &[CodePoint],
+    units: &Ahead<'_, U>,
     unicode_mode: bool,
     steps: &mut C,
 ) -> Result<Option<Text>, OutOfMemory>
@@ -62,22 +73,23 @@ pub fn capturing_group_name_counted<C: Counter>(
     ensures steps { Rises (C.count steps.old) (C.count steps.new) 0 (2 * length units.now + 4) }
     ensures least { IfOk result (λ found. IfSome found (λ _. length units.now + 2 * C.count steps.old ≤ 2 * C.count steps.new)) }
 {
-    if units.is_empty() {
-        return Ok(None);
-    }
     let mut name = Text::from_str(alloc, "")?;
+    let items = units.items();
     let mut place = 0;
-    while place < units.len() {
+    while place < items.len() {
         steps.tick();
-        let unit = units[place].value;
-        let following = &units[place + 1..];
-        match name_character(unit, following, unicode_mode, place == 0, steps) {
+        let unit = items[place].value();
+        let following = units.from(place + 1);
+        match name_character(unit, &following, unicode_mode, place == 0, steps) {
             Some((character, length)) => {
                 name.push(character)?;
                 place += length;
             }
             None => return Ok(None),
         }
+    }
+    if place == 0 {
+        return Ok(None);
     }
     Ok(Some(name))
 }
@@ -86,8 +98,8 @@ pub fn capturing_group_name_counted<C: Counter>(
 /// name stands there. The units are code points in unicode mode, else UTF-16 code units. Counts each character that is looked at, and the digits of
 /// an escape as `decode_counted` does.
 // Why: docs/DECISIONS.md, 27.
-pub fn group_name_length_counted<C: Counter>(
-    units: &[CodePoint],
+pub fn group_name_length_counted<U: Unit, C: Counter>(
+    units: &Ahead<'_, U>,
     unicode_mode: bool,
     steps: &mut C,
 ) -> usize
@@ -98,12 +110,13 @@ pub fn group_name_length_counted<C: Counter>(
     ensures most { C.count steps.new ≤ C.count steps.old + length units.now + result + 4 }
     ensures least { result + 2 * C.count steps.old ≤ 2 * C.count steps.new }
 {
+    let items = units.items();
     let mut length = 0;
-    while length < units.len() {
+    while length < items.len() {
         steps.tick();
-        let unit = units[length].value;
-        let following = &units[length + 1..];
-        match name_character(unit, following, unicode_mode, length == 0, steps) {
+        let unit = items[length].value();
+        let following = units.from(length + 1);
+        match name_character(unit, &following, unicode_mode, length == 0, steps) {
             Some((_, count)) => length += count,
             None => return length,
         }
@@ -112,9 +125,9 @@ pub fn group_name_length_counted<C: Counter>(
 }
 
 /// The character of a name that begins with a unit (RegExpIdentifierStart and RegExpIdentifierPart, 22.2.1), and how many units spell it.
-fn name_character<C: Counter>(
+fn name_character<U: Unit, C: Counter>(
     unit: u32,
-    following: &[CodePoint],
+    following: &Ahead<'_, U>,
     unicode_mode: bool,
     first: bool,
     steps: &mut C,
@@ -134,9 +147,9 @@ fn name_character<C: Counter>(
 }
 
 /// The character of a name that a unit is, by itself or with the next (RegExpIdentifierStart and RegExpIdentifierPart, 22.2.1).
-fn raw_character(
+fn raw_character<U: Unit>(
     unit: u32,
-    following: &[CodePoint],
+    following: &Ahead<'_, U>,
     unicode_mode: bool,
     first: bool,
 ) -> Option<(char, usize)>
@@ -151,8 +164,8 @@ fn raw_character(
 }
 
 /// The character of a name that the units after a backslash spell (RegExpUnicodeEscapeSequence, 22.2.1), and how many units spell it with the backslash.
-fn escaped_character<C: Counter>(
-    units: &[CodePoint],
+fn escaped_character<U: Unit, C: Counter>(
+    units: &Ahead<'_, U>,
     first: bool,
     steps: &mut C,
 ) -> Option<(char, usize)>
@@ -160,6 +173,8 @@ fn escaped_character<C: Counter>(
     ensures found { IfSome result (λ read. (read.1 + 2 * C.count steps.old ≤ 2 * (C.count steps.new + 1)) × (C.count steps.new + 1 ≤ C.count steps.old + 2 * read.1)) }
     ensures steps { Rises (C.count steps.old) (C.count steps.new) 0 (length units.now + 4) }
 {
+    // Why: docs/DECISIONS.md, 131.
+    let _ = units.len();
     match decode_counted(units, true, steps) {
         UnicodeEscape::Value { code_point, length } => {
             Some((in_name(code_point, first)?, length + 1))
@@ -169,11 +184,11 @@ fn escaped_character<C: Counter>(
 }
 
 /// The character of a name that a unit and the next are (UnicodeLeadSurrogate and UnicodeTrailSurrogate, 22.2.1).
-fn raw_pair(lead: u32, units: &[CodePoint], first: bool) -> Option<(char, usize)>
+fn raw_pair<U: Unit>(lead: u32, units: &Ahead<'_, U>, first: bool) -> Option<(char, usize)>
     ensures read { seen_character result ≡ pair_at first lead (values units.now) }
     ensures count { IfSome result (λ read. read.1 ≡ 2) }
 {
-    let trail = units.first()?.value;
+    let trail = units.first()?;
     if !is_lead_surrogate(lead) || !is_trail_surrogate(trail) {
         return None;
     }

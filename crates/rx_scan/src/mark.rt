@@ -6,11 +6,11 @@ ghost use Rattle.rx_scan.specs.MarkReading.{closed_part, is_plain, seen_front, s
 
 use rx_base::Counter;
 use rx_model::Mode;
-use rx_units::CodePoint;
+use rx_units::{Ahead, Unit};
 
 /// What counting groups sees of a text (CountLeftCapturingParensWithin of ECMA-262, 22.2.1.2).
-#[derive(Clone, Copy, Debug)]
-pub enum Mark<'a> {
+#[derive(Drop)]
+pub enum Mark<'a, U: Unit> {
     /// A unit, an escape or a class that opens and closes nothing.
     Other,
     Bar,
@@ -18,7 +18,7 @@ pub enum Mark<'a> {
     /// An opening that does not capture.
     Quiet,
     /// An opening that captures, with the units between its `<` and its `>` where both are there.
-    Capturing(Option<&'a [CodePoint]>),
+    Capturing(Option<Ahead<'a, U>>),
 }
 
 /// Whether a unit is a mark of its own that opens and closes nothing, whatever stands after it.
@@ -44,12 +44,12 @@ static BEGINS_MARK: [u8; 128] = [
 /// The mark (CountLeftCapturingParensWithin, 22.2.1.2) that begins with a unit, and how many of the units after it are the mark's. Each of
 /// these is a step.
 #[tactic(auto, unfolding(rx_model::specs::FirstPass::Marks::mark_front))]
-pub fn read_mark<'a, C: Counter>(
+pub fn read_mark<'a, U: Unit, C: Counter>(
     unit: u32,
-    following: &'a [CodePoint],
+    following: &Ahead<'a, U>,
     mode: Mode,
     steps: &mut C,
-) -> (Mark<'a>, usize)
+) -> (Mark<'a, U>, usize)
     ensures value { seen_front result ≡ mark_front mode unit (values following.now) }
     ensures within { result.1 ≤ length following.now }
     ensures name { name_length (seen_mark result.0) ≤ result.1 }
@@ -71,23 +71,23 @@ pub fn read_mark<'a, C: Counter>(
 }
 
 /// How many units an escape has after its backslash (AtomEscape, 22.2.1): counting sees one, where one is left.
-fn escape_rest<C: Counter>(units: &[CodePoint], steps: &mut C) -> usize
+fn escape_rest<U: Unit, C: Counter>(units: &Ahead<'_, U>, steps: &mut C) -> usize
     ensures value { result ≡ escape_rest (values units.now) }
     ensures within { result ≤ length units.now }
     ensures steps { C.count steps.new ≡ C.count steps.old + result }
 {
-    match units {
-        [_, ..] => {
+    match units.split_first() {
+        Some(_) => {
             steps.tick();
             1
         }
-        _ => 0,
+        None => 0,
     }
 }
 
 /// How many units a class has after its `[` (CharacterClass, 22.2.1).
 // Why: docs/DECISIONS.md, 26.
-fn class_rest<C: Counter>(units: &[CodePoint], mode: Mode, steps: &mut C) -> usize
+fn class_rest<U: Unit, C: Counter>(units: &Ahead<'_, U>, mode: Mode, steps: &mut C) -> usize
     ensures value { result ≡ class_rest mode false 0 (values units.now) }
     ensures within { result ≤ length units.now }
     ensures steps { C.count steps.new ≡ C.count steps.old + result }
@@ -99,73 +99,82 @@ fn class_rest<C: Counter>(units: &[CodePoint], mode: Mode, steps: &mut C) -> usi
 }
 
 /// The same without `v`: a class has no class in it.
-fn flat_class_rest<C: Counter>(units: &[CodePoint], steps: &mut C) -> usize
+fn flat_class_rest<U: Unit, C: Counter>(units: &Ahead<'_, U>, steps: &mut C) -> usize
     ensures value { (mode : Mode) → is_sets mode ≡ false → result ≡ class_rest mode false 0 (values units.now) }
     ensures within { result ≤ length units.now }
     ensures steps { C.count steps.new ≡ C.count steps.old + result }
 {
-    let mut left = units;
-    while let [unit, more @ ..] = left {
+    let mut left = units.from(0);
+    while let Some((unit, more)) = left.split_first() {
         steps.tick();
         left = more;
-        if unit.value == '\\' as u32 || unit.value == ']' as u32 {
-            if unit.value == ']' as u32 {
+        if unit == '\\' as u32 || unit == ']' as u32 {
+            if unit == ']' as u32 {
                 return units.len() - left.len();
             }
-            left = &more[escape_rest(more, steps)..];
+            left = left.from(escape_rest(&left, steps));
         }
     }
     units.len()
 }
 
 /// The same with `v`: classes may be open in it (NestedClass, 22.2.1).
-fn nested_class_rest<C: Counter>(units: &[CodePoint], steps: &mut C) -> usize
+fn nested_class_rest<U: Unit, C: Counter>(units: &Ahead<'_, U>, steps: &mut C) -> usize
     ensures value { result ≡ class_rest Mode.Sets false 0 (values units.now) }
     ensures within { result ≤ length units.now }
     ensures steps { C.count steps.new ≡ C.count steps.old + result }
 {
+    let length = units.len();
     let mut open = 0usize;
-    let mut left = units;
-    while let [unit, more @ ..] = left {
+    let mut left = units.from(0);
+    while let Some((unit, more)) = left.split_first() {
         steps.tick();
         left = more;
-        if unit.value == '\\' as u32 {
-            left = &more[escape_rest(more, steps)..];
-        } else if unit.value == '[' as u32 {
+        if unit == '\\' as u32 {
+            left = left.from(escape_rest(&left, steps));
+        } else if unit == '[' as u32 {
             open += 1;
-        } else if unit.value == ']' as u32 {
+        } else if unit == ']' as u32 {
             if open == 0 {
-                return units.len() - left.len();
+                return length - left.len();
             }
             open -= 1;
         }
     }
-    units.len()
+    length
 }
 
 /// What stands after `(`: without a `?` the group captures, and has no name (Atom, 22.2.1).
-fn after_parenthesis<'a, C: Counter>(units: &'a [CodePoint], steps: &mut C) -> (Mark<'a>, usize)
+#[tactic(auto, using(crate::proofs::MarkSteps::starts_not))]
+fn after_parenthesis<'a, U: Unit, C: Counter>(
+    units: &Ahead<'a, U>,
+    steps: &mut C,
+) -> (Mark<'a, U>, usize)
     ensures value { seen_front result ≡ open_front (values units.now) }
     ensures within { result.1 ≤ length units.now }
     ensures name { name_length (seen_mark result.0) ≤ result.1 }
     ensures steps { C.count steps.new ≡ C.count steps.old + result.1 }
 {
-    match units {
-        [unit, rest @ ..] if unit.value == '?' as u32 => after_question(rest, steps),
-        _ => (Mark::Capturing(None), 0),
+    match units.after('?') {
+        Some(rest) => after_question(&rest, steps),
+        None => (Mark::Capturing(None), 0),
     }
 }
 
 /// What stands after `(?`: all but a name is quiet (Atom and Assertion, 22.2.1).
-fn after_question<'a, C: Counter>(units: &'a [CodePoint], steps: &mut C) -> (Mark<'a>, usize)
+#[tactic(auto, using(crate::proofs::MarkSteps::starts_not))]
+fn after_question<'a, U: Unit, C: Counter>(
+    units: &Ahead<'a, U>,
+    steps: &mut C,
+) -> (Mark<'a, U>, usize)
     ensures value { seen_front result ≡ question_front (values units.now) }
     ensures within { result.1 ≤ length units.now + 1 }
     ensures name { name_length (seen_mark result.0) ≤ result.1 }
     ensures steps { C.count steps.new ≡ C.count steps.old + result.1 }
 {
-    match units {
-        [unit, rest @ ..] if unit.value == '<' as u32 => after_angle(rest, steps),
-        _ => {
+    match units.after('<') {
+        Some(rest) => after_angle(&rest, steps),
+        None => {
             if starts(units, ':') || starts(units, '=') || starts(units, '!') {
                 steps.add(2);
                 (Mark::Quiet, 2)
@@ -178,7 +187,7 @@ fn after_question<'a, C: Counter>(units: &'a [CodePoint], steps: &mut C) -> (Mar
 }
 
 /// What stands after `(?<`: a lookbehind, or a name (Assertion and GroupName, 22.2.1).
-fn after_angle<'a, C: Counter>(units: &'a [CodePoint], steps: &mut C) -> (Mark<'a>, usize)
+fn after_angle<'a, U: Unit, C: Counter>(units: &Ahead<'a, U>, steps: &mut C) -> (Mark<'a, U>, usize)
     ensures value { seen_front result ≡ after_angle (values units.now) }
     ensures within { result.1 ≤ length units.now + 2 }
     ensures name { name_length (seen_mark result.0) ≤ result.1 }
@@ -193,7 +202,10 @@ fn after_angle<'a, C: Counter>(units: &'a [CodePoint], steps: &mut C) -> (Mark<'
 }
 
 /// A capturing opening whose name, if it has one, begins here (GroupSpecifier, 22.2.1).
-fn group_specifier<'a, C: Counter>(units: &'a [CodePoint], steps: &mut C) -> (Mark<'a>, usize)
+fn group_specifier<'a, U: Unit, C: Counter>(
+    units: &Ahead<'a, U>,
+    steps: &mut C,
+) -> (Mark<'a, U>, usize)
     ensures value { seen_front result ≡ specifier_front (values units.now) }
     ensures within { result.1 ≤ length units.now + 2 }
     ensures name { name_length (seen_mark result.0) ≤ result.1 }
@@ -201,32 +213,36 @@ fn group_specifier<'a, C: Counter>(units: &'a [CodePoint], steps: &mut C) -> (Ma
 {
     steps.add(2);
     match name_units(units, steps) {
-        Some(name) => (Mark::Capturing(Some(name)), name.len() + 3),
+        Some(name) => {
+            let length = name.len();
+            (Mark::Capturing(Some(name)), length + 3)
+        }
         None => (Mark::Capturing(None), units.len() + 2),
     }
 }
 
 /// The units before the next `>`, where one stands (GroupName, 22.2.1).
-fn name_units<'a, C: Counter>(units: &'a [CodePoint], steps: &mut C) -> Option<&'a [CodePoint]>
-    ensures value { option_map (λ part. values part.now) result ≡ closed_part (values units.now) }
-    ensures within { IfSome result (λ part. length part.now < length units.now) }
+fn name_units<'a, U: Unit, C: Counter>(units: &Ahead<'a, U>, steps: &mut C) -> Option<Ahead<'a, U>>
+    ensures value { option_map (λ part. values part) result ≡ closed_part (values units.now) }
+    ensures within { IfSome result (λ part. length part < length units.now) }
     ensures steps { MatchOption result (C.count steps.new ≡ C.count steps.old + length units.now)
-        (λ part. C.count steps.new ≡ C.count steps.old + length part.now + 1) }
+        (λ part. C.count steps.new ≡ C.count steps.old + length part + 1) }
 {
-    for (place, unit) in units.iter().enumerate() {
+    let items = units.items();
+    for (place, unit) in items.iter().enumerate() {
         steps.tick();
-        if unit.value == '>' as u32 {
-            return Some(&units[..place]);
+        if unit.value() == '>' as u32 {
+            return Some(units.front(place));
         }
     }
     None
 }
 
-fn starts(units: &[CodePoint], character: char) -> bool
+fn starts<U: Unit>(units: &Ahead<'_, U>, character: char) -> bool
     ensures { result ≡ starts character (values units.now) }
 {
-    match units {
-        [unit, ..] => unit.value == character as u32,
-        _ => false,
+    match units.split_first() {
+        Some((unit, _)) => unit == character as u32,
+        None => false,
     }
 }

@@ -7,7 +7,7 @@ use crate::first_pass::{FirstPass, PassFault};
 use crate::{Environment, Names};
 use rx_base::{Counter, Steps};
 use rx_model::Mode;
-use rx_units::{CodePoint, Reader};
+use rx_units::{Ahead, Reader, Unit, UnitSource};
 use std::alloc::Global;
 use std::marker::Brand;
 use std::sync::ledger::{Blank, Ledger};
@@ -79,19 +79,22 @@ impl State {
     /// Goes over the whole pattern once, and counts its groups (CountLeftCapturingParensWithin of ECMA-262, 22.2.1.2) and lists their
     /// names, or refuses the first two equal names that clash (22.2.1.1). The reader stays at place 0. After an error
     /// the state is as it was.
-    pub fn initialize_with_parsing(&mut self, reader: &mut Reader<'_>) -> Result<(), StateFault>
+    pub fn initialize_with_parsing<S: UnitSource>(
+        &mut self,
+        reader: &mut Reader<'_, S>,
+    ) -> Result<(), StateFault>
         requires start { reader.old.place ≡ 0 }
         ensures reader { reader.new ≡ reader.old }
         ensures counted { CountsGroups self.old self.new reader.old result }
     {
-        self.initialize_alone::<Brand>(reader, Blank::new(1))
+        self.initialize_alone::<S, Brand>(reader, Blank::new(1))
     }
 
     /// The same, with a counter of its own.
     // Why: docs/DECISIONS.md, 98.
-    fn initialize_alone<L: Ledger>(
+    fn initialize_alone<S: UnitSource, L: Ledger>(
         &mut self,
-        reader: &mut Reader<'_>,
+        reader: &mut Reader<'_, S>,
         blank: Blank,
     ) -> Result<(), StateFault>
         requires start { reader.old.place ≡ 0 }
@@ -105,9 +108,9 @@ impl State {
     }
 
     /// Goes over the pattern as `initialize_with_parsing` does. Counts each unit that it goes over.
-    pub fn initialize_with_parsing_counted<C: Counter>(
+    pub fn initialize_with_parsing_counted<S: UnitSource, C: Counter>(
         &mut self,
-        reader: &mut Reader<'_>,
+        reader: &mut Reader<'_, S>,
         steps: &mut C,
     ) -> Result<(), StateFault>
         requires start { reader.old.place ≡ 0 }
@@ -117,22 +120,23 @@ impl State {
         ensures most { C.count steps.new ≤ C.count steps.old + length reader.old.units }
     {
         let alloc = self.capturing_group_names.allocator();
-        let units = reader.remaining_code_points();
+        let units = reader.ahead();
         let start = reader.offset();
-        match FirstPass::over(alloc, units, self.mode(), self.duplicate_names, steps) {
+        match FirstPass::over(alloc, &units, self.mode(), self.duplicate_names, steps) {
             Ok(pass) => {
                 self.keep(pass);
                 Ok(())
             }
             Err(PassFault::OutOfMemory) => Err(StateFault::OutOfMemory),
             Err(PassFault::Duplicated { first, second }) => Err(StateFault::Duplicated {
-                first: offsets_at(units, start, first),
-                second: offsets_at(units, start, second),
+                first: offsets_at(&units, start, first),
+                second: offsets_at(&units, start, second),
             }),
         }
     }
 
     /// Takes over what a first pass has found.
+    #[inline(always)]
     fn keep(&mut self, pass: FirstPass)
         ensures { self.new ≡ record self.old { named_capture_groups = is_unicode (mode_of_state self.old) || has_some pass.names; num_of_capturing_groups = min pass.count (2 ^ 32 - 1); capturing_group_names = pass.names } }
     {
@@ -143,7 +147,7 @@ impl State {
 }
 
 /// The offsets at two places of the units, where `start` is the offset before the first unit.
-fn offsets_at(units: &[CodePoint], start: u32, places: (usize, usize)) -> (u32, u32)
+fn offsets_at<U: Unit>(units: &Ahead<'_, U>, start: u32, places: (usize, usize)) -> (u32, u32)
     ensures { result ≡ (offset_at start units.now places.0, offset_at start units.now places.1) }
 {
     let (first, second) = places;
@@ -153,12 +157,13 @@ fn offsets_at(units: &[CodePoint], start: u32, places: (usize, usize)) -> (u32, 
     )
 }
 
-fn offset_at(units: &[CodePoint], start: u32, place: usize) -> u32
+fn offset_at<U: Unit>(units: &Ahead<'_, U>, start: u32, place: usize) -> u32
     ensures { result ≡ offset_at start units.now place }
 {
     let place = place.min(units.len());
-    match &units[..place] {
-        [.., last] => last.span.end,
-        [] => start,
+    if place == 0 {
+        start
+    } else {
+        units.end_of(place)
     }
 }

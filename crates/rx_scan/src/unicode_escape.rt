@@ -10,7 +10,7 @@ ghost use Rattle.rx_scan.specs.EscapeDecoding.{IsDecoded, seen_escape};
 
 use rx_base::{Counter, Steps, combine_surrogate_pair, is_lead_surrogate, is_trail_surrogate};
 use rx_tables::map_hex_digit;
-use rx_units::CodePoint;
+use rx_units::{Ahead, CodePoint, Unit};
 use std::marker::Brand;
 use std::sync::ledger::{Blank, Ledger};
 
@@ -30,12 +30,16 @@ pub enum UnicodeEscape {
 pub fn decode(units: &[CodePoint], unicode_mode: bool) -> UnicodeEscape
     ensures { IsDecoded unicode_mode units.now result }
 {
-    decode_alone::<Brand>(units, unicode_mode, Blank::new(1))
+    decode_alone::<CodePoint, Brand>(&Ahead::of(units), unicode_mode, Blank::new(1))
 }
 
 /// The same, with a counter of its own.
 // Why: docs/DECISIONS.md, 98.
-fn decode_alone<L: Ledger>(units: &[CodePoint], unicode_mode: bool, blank: Blank) -> UnicodeEscape
+fn decode_alone<U: Unit, L: Ledger>(
+    units: &Ahead<'_, U>,
+    unicode_mode: bool,
+    blank: Blank,
+) -> UnicodeEscape
     requires name { blank.name ≡ L.name }
     requires parts { blank.parts ≡ L.parts }
     requires one { blank.parts ≡ 1 }
@@ -47,8 +51,8 @@ fn decode_alone<L: Ledger>(units: &[CodePoint], unicode_mode: bool, blank: Blank
 /// Decodes as `decode` does. Counts each hexadecimal digit that is found where four are looked for, and each unit that is looked at after an
 /// opening brace.
 #[tactic(auto, using(crate::proofs::EscapeAnswers::is_decoded))]
-pub fn decode_counted<C: Counter>(
-    units: &[CodePoint],
+pub fn decode_counted<U: Unit, C: Counter>(
+    units: &Ahead<'_, U>,
     unicode_mode: bool,
     steps: &mut C,
 ) -> UnicodeEscape
@@ -61,14 +65,18 @@ pub fn decode_counted<C: Counter>(
     // A step for each hexadecimal digit that is looked at, whatever the answer, and at most one besides: for a unit after a brace that is no digit.
     ensures looked { Rises (C.count steps.old) (C.count steps.new) (digits_looked_at unicode_mode (values units.now)) (digits_looked_at unicode_mode (values units.now) + 1) }
 {
-    match units {
-        [u, digits @ ..] if u.value == 'u' as u32 => after_u(digits, unicode_mode, steps),
-        _ => UnicodeEscape::Invalid,
+    match units.after('u') {
+        Some(digits) => after_u(&digits, unicode_mode, steps),
+        None => UnicodeEscape::Invalid,
     }
 }
 
 /// What stands after the `u`: four digits, or in unicode mode digits in braces (RegExpUnicodeEscapeSequence, 22.2.1).
-fn after_u<C: Counter>(units: &[CodePoint], unicode_mode: bool, steps: &mut C) -> UnicodeEscape
+fn after_u<U: Unit, C: Counter>(
+    units: &Ahead<'_, U>,
+    unicode_mode: bool,
+    steps: &mut C,
+) -> UnicodeEscape
     ensures read { seen_escape result ≡ after_u unicode_mode (four_at (values units.now)) (values units.now) }
     ensures steps { Rises (C.count steps.old) (C.count steps.new) (least_digits result) (most_digits unicode_mode (length units.now) result) }
     ensures half { escape_length result + 2 * C.count steps.old ≤ 2 * C.count steps.new }
@@ -77,7 +85,7 @@ fn after_u<C: Counter>(units: &[CodePoint], unicode_mode: bool, steps: &mut C) -
     match four_digits(units, steps) {
         Some((value, rest)) => {
             if unicode_mode && is_lead_surrogate(value) {
-                return lead_or_pair(value, rest, steps);
+                return lead_or_pair(value, &rest, steps);
             }
             UnicodeEscape::Value {
                 code_point: value,
@@ -96,22 +104,22 @@ fn after_u<C: Counter>(units: &[CodePoint], unicode_mode: bool, steps: &mut C) -
 
 /// The number of four hexadecimal digits (Hex4Digits, 12.9.4), and the units after them.
 #[tactic(auto, using(crate::proofs::Steps::short_four))]
-fn four_digits<'a, C: Counter>(
-    units: &'a [CodePoint],
+fn four_digits<'a, U: Unit, C: Counter>(
+    units: &Ahead<'a, U>,
     steps: &mut C,
-) -> Option<(u32, &'a [CodePoint])>
-    ensures value { option_map (λ r. (r.0, values r.1.now)) result ≡ four_at (values units.now) }
+) -> Option<(u32, Ahead<'a, U>)>
+    ensures value { option_map (λ r. (r.0, values r.1)) result ≡ four_at (values units.now) }
     ensures steps { MatchOption result (Rises (C.count steps.old) (C.count steps.new) 0 3 × (C.count steps.new ≤ C.count steps.old + length units.now))
         (λ _. C.count steps.new ≡ C.count steps.old + 4) }
     ensures looked { C.count steps.new ≡ digits_of_four (values units.now) + C.count steps.old }
 {
-    match units {
-        [a, b, c, d, rest @ ..] => {
-            let a = hex_digit(a, steps)?;
-            let b = hex_digit(b, steps)?;
-            let c = hex_digit(c, steps)?;
-            let d = hex_digit(d, steps)?;
-            Some((16 * (16 * (16 * a + b) + c) + d, rest))
+    match units.items() {
+        [a, b, c, d, ..] => {
+            let a = hex_digit(a.value(), steps)?;
+            let b = hex_digit(b.value(), steps)?;
+            let c = hex_digit(c.value(), steps)?;
+            let d = hex_digit(d.value(), steps)?;
+            Some((16 * (16 * (16 * a + b) + c) + d, units.from(4)))
         }
         _ => None,
     }
@@ -120,15 +128,15 @@ fn four_digits<'a, C: Counter>(
 /// The number of the four hexadecimal digits (Hex4Digits, 12.9.4) that stand next. It counts no steps.
 #[inline(always)]
 #[tactic(auto, using(crate::proofs::Steps::short_next))]
-pub fn four_hex_digits(units: &[CodePoint]) -> Option<u32>
+pub fn four_hex_digits<U: Unit>(units: &Ahead<'_, U>) -> Option<u32>
     ensures { result ≡ four_next (values units.now) }
 {
-    match units {
+    match units.items() {
         [a, b, c, d, ..] => {
-            let a = digit_value(a)?;
-            let b = digit_value(b)?;
-            let c = digit_value(c)?;
-            let d = digit_value(d)?;
+            let a = digit_value(a.value())?;
+            let b = digit_value(b.value())?;
+            let c = digit_value(c.value())?;
+            let d = digit_value(d.value())?;
             Some(16 * (16 * (16 * a + b) + c) + d)
         }
         _ => None,
@@ -136,8 +144,8 @@ pub fn four_hex_digits(units: &[CodePoint]) -> Option<u32>
 }
 
 /// What a hexadecimal digit stands for (HexDigit, 12.9.3), and a step where the unit is one.
-fn hex_digit<C: Counter>(unit: &CodePoint, steps: &mut C) -> Option<u32>
-    ensures value { result ≡ hex_digit_value unit.now.value }
+fn hex_digit<C: Counter>(unit: u32, steps: &mut C) -> Option<u32>
+    ensures value { result ≡ hex_digit_value unit }
     ensures small { IfSome result (λ digit. digit < 16) }
     ensures steps { MatchOption result (C.count steps.new ≡ C.count steps.old) (λ _. C.count steps.new ≡ C.count steps.old + 1) }
 {
@@ -149,16 +157,20 @@ fn hex_digit<C: Counter>(unit: &CodePoint, steps: &mut C) -> Option<u32>
 /// The same, counting no step.
 #[inline(always)]
 #[tactic(auto, using(rx_tables::proofs::Digits::hex_digit_value_small))]
-fn digit_value(unit: &CodePoint) -> Option<u32>
-    ensures value { result ≡ hex_digit_value unit.now.value }
+fn digit_value(unit: u32) -> Option<u32>
+    ensures value { result ≡ hex_digit_value unit }
     ensures small { IfSome result (λ digit. digit < 16) }
 {
-    map_hex_digit(unit.value)
+    map_hex_digit(unit)
 }
 
 /// A lead surrogate by itself, or the code point of it and the trail surrogate that is escaped next (HexLeadSurrogate and HexTrailSurrogate,
 /// 22.2.1). The four digits of the lead are counted before.
-fn lead_or_pair<C: Counter>(lead: u32, units: &[CodePoint], steps: &mut C) -> UnicodeEscape
+fn lead_or_pair<U: Unit, C: Counter>(
+    lead: u32,
+    units: &Ahead<'_, U>,
+    steps: &mut C,
+) -> UnicodeEscape
     requires { IsLeadSurrogate lead }
     ensures read { seen_escape result ≡ pair_or_unit lead (trail_at (values units.now)) }
     ensures steps { Rises (C.count steps.old) (C.count steps.new + 4) (least_digits result) (most_digits true 0 result) }
@@ -178,53 +190,49 @@ fn lead_or_pair<C: Counter>(lead: u32, units: &[CodePoint], steps: &mut C) -> Un
 }
 
 /// The trail surrogate that is escaped next, in four digits (HexTrailSurrogate, 22.2.1).
-#[tactic(auto, using(crate::proofs::Steps::short_trail))]
-fn trail_escape<C: Counter>(units: &[CodePoint], steps: &mut C) -> Option<u32>
+fn trail_escape<U: Unit, C: Counter>(units: &Ahead<'_, U>, steps: &mut C) -> Option<u32>
     ensures value { result ≡ trail_at (values units.now) }
     ensures trail { IfSome result (λ trail. IsTrailSurrogate trail) }
     ensures steps { Rises (C.count steps.old) (C.count steps.new) (if is_some result then 4 else 0) 4 }
     ensures looked { C.count steps.new ≡ digits_of_trail (values units.now) + C.count steps.old }
 {
-    match units {
-        [backslash, u, digits @ ..] if backslash.value == '\\' as u32 && u.value == 'u' as u32 => {
-            let (trail, _) = four_digits(digits, steps)?;
-            is_trail_surrogate(trail).then_some(trail)
-        }
-        _ => None,
-    }
+    let digits = units.after('\\')?.after('u')?;
+    let (trail, _) = four_digits(&digits, steps)?;
+    is_trail_surrogate(trail).then_some(trail)
 }
 
 /// The digits in braces that stand next (RegExpUnicodeEscapeSequence, 22.2.1).
-fn braced_digits<C: Counter>(units: &[CodePoint], steps: &mut C) -> UnicodeEscape
+fn braced_digits<U: Unit, C: Counter>(units: &Ahead<'_, U>, steps: &mut C) -> UnicodeEscape
     ensures read { seen_escape result ≡ braces_at (values units.now) }
     ensures steps { Rises (C.count steps.old) (C.count steps.new) (least_digits result) (most_digits true (length units.now) result) }
     ensures half { escape_length result + 2 * C.count steps.old ≤ 2 * C.count steps.new }
     ensures looked { Rises (C.count steps.old) (C.count steps.new) (digits_in_braces (values units.now)) (digits_in_braces (values units.now) + 1) }
 {
-    match units {
-        [brace, digits @ ..] if brace.value == '{' as u32 => digits_to_brace(digits, steps),
-        _ => UnicodeEscape::Invalid,
+    match units.after('{') {
+        Some(digits) => digits_to_brace(&digits, steps),
+        None => UnicodeEscape::Invalid,
     }
 }
 
 /// The number of the digits up to the closing brace (CodePoint, 12.9.6).
 #[tactic(auto, using(crate::proofs::LookedDigits::run_is_looked_at))]
-fn digits_to_brace<C: Counter>(units: &[CodePoint], steps: &mut C) -> UnicodeEscape
+fn digits_to_brace<U: Unit, C: Counter>(units: &Ahead<'_, U>, steps: &mut C) -> UnicodeEscape
     ensures read { seen_escape result ≡ run_at 0 0 (values units.now) }
     ensures steps { Rises (C.count steps.old) (C.count steps.new) (least_digits result) (most_digits true (length units.now) result) }
     ensures half { escape_length result + 2 * C.count steps.old ≤ 2 * C.count steps.new }
     ensures looked { Rises (C.count steps.old) (C.count steps.new) (digits_of_run (values units.now)) (digits_of_run (values units.now) + 1) }
 {
     let mut value = 0u32;
-    for (count, unit) in units.iter().enumerate() {
+    let items = units.items();
+    for (count, unit) in items.iter().enumerate() {
         steps.tick();
-        match map_hex_digit(unit.value) {
+        match map_hex_digit(unit.value()) {
             Some(digit) => match value.checked_mul(16).and_then(|v| v.checked_add(digit)) {
                 Some(next) => value = next,
                 None => return UnicodeEscape::Overflow { digits: count },
             },
             None => {
-                if unit.value == '}' as u32 && count > 0 && value <= 0x10FFFF {
+                if unit.value() == '}' as u32 && count > 0 && value <= 0x10FFFF {
                     return UnicodeEscape::Value {
                         code_point: value,
                         length: count + 3,

@@ -3,5 +3,5 @@ use Rattle.std.proofs.lemmas.Grind.{common_steps}
 use Rattle.rx_scan.proofs.EscapeAnswers.{is_decoded}
 use Rattle.rx_scan.proofs.unicode_escape.decode_counted.Goals as goal
 
-pub returns-in-len1-up-clause-decoded : goal.returns-in-len1-up-clause-decoded
-returns-in-len1-up-clause-decoded g c = is_decoded c.args.unicode_mode c.args.units.now c.after_u.result (grind (arith, common_steps))
+pub returns-in-Some-clause-decoded : goal.returns-in-Some-clause-decoded
+returns-in-Some-clause-decoded g c = is_decoded c.args.unicode_mode c.args.units.now c.after_u.result (grind (arith, common_steps))

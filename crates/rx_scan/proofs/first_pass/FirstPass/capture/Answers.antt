@@ -9,16 +9,16 @@ use Rattle.rx_scan.proofs.Captures.{captured_steps}
 use Rattle.rx_scan.proofs.first_pass.FirstPass.capture.Goals as goal
 
 pub returns-in_default-clause-ok : goal.returns-in_default-clause-ok
-returns-in_default-clause-ok c =
+returns-in_default-clause-ok g c =
     let old = c.args.self.now in let new = c.capture_unnamed.new.self in let place = c.args.place in let index = c.args.index in
     subst (λ units. OnOk c.capture_unnamed.result (Steps old new (seen_capturing units) place index)) (sym c.in_default.is)
     (on_ok_weaker c.capture_unnamed.result (λ f. captured_steps old new None None place index refl (f (place + 3) (place + 3 + 0))) c.capture_unnamed.ensures.ok)
 
 pub returns-in-None-clause-ok : goal.returns-in-None-clause-ok
-returns-in-None-clause-ok c =
+returns-in-None-clause-ok g c =
     let old = c.args.self.now in let new = c.capture_unnamed-in-None.new.self in let place = c.args.place in let index = c.args.index in
-    let spelled = values c.in-Some.units.now in
+    let spelled = values c.in-Some.units in
     subst (λ units. OnOk c.capture_unnamed-in-None.result (Steps old new (seen_capturing units) place index)) (sym c.in-Some.is)
     (on_ok_weaker c.capture_unnamed-in-None.result
-    (λ f. captured_steps old new (Some spelled) None place index (ap (λ unicode_mode. name_of unicode_mode spelled) (sym c.is_unicode.ensures) ∙ sym c.in_ok-capturing_group_name.ensures.read ∙ c.in-None.is) (f (place + 3) (place + 3 + length spelled)))
+    (λ f. captured_steps old new (Some spelled) None place index (ap (λ unicode_mode. name_of unicode_mode spelled) (sym c.is_unicode.ensures) ∙ sym c.in_ok-spelled_name.ensures.read ∙ c.in-None.is) (f (place + 3) (place + 3 + length spelled)))
     c.capture_unnamed-in-None.ensures.ok)

@@ -5,7 +5,7 @@ use Rattle.rx_scan.proofs.state.State.initialize_with_parsing_counted.Goals as g
 pub returns-in-Ok-clause-counted : goal.returns-in-Ok-clause-counted
 returns-in-Ok-clause-counted g c =
     let reader = c.args.reader.now in
-    let all = c.remaining_code_points-units.ensures.units ∙ ap (λ place. drop place reader.units) c.requires.start in
+    let all = c.ahead-units.ensures.units ∙ ap (λ place. drop place reader.units) c.requires.start in
     record {
       unicode_mode = search rules;
       unicode_sets_mode = search rules;
