@@ -20,11 +20,6 @@ whole_fresh held whole = grind arith
 pub union_whole : (held : Held) → is_union held ≡ true → is_whole held ≡ true
 union_whole held union = grind arith
 
-pub union_operand : (held : Held) → is_union held ≡ true → IsSome (operand held)
-union_operand (pending o) union = absurd (let no : ⊥ = cc union in no)
-union_operand (joined o) union = absurd (let no : ⊥ = cc union in no)
-union_operand held union = refl
-
 pub union_range : (held : Held) → is_union held ≡ true → with_range held ≡ Some several
 union_range held union = grind arith
 

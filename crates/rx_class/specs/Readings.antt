@@ -3,7 +3,7 @@ use Rattle.std.specs.Prelude.{◌≡◌}
 use Rattle.rx_class.specs.declared.reading.Reading.{Reading}
 
 -- One reading, before and after: it has the same reader, which may have moved, the same counter, and the same state and spans.
-pub record ReadsOn {C : Type 0} (old new : Reading C) : Type 0 where
+pub record ReadsOn {S C U : Type 0} {s : _} {u : _} (old new : Reading S C U s u) : Type 0 where
   pub reader : new.reader.ghost_name ≡ old.reader.ghost_name
   pub steps : new.steps.ghost_name ≡ old.steps.ghost_name
   pub state : new.state.now ≡ old.state.now

@@ -12,15 +12,15 @@ use crate::escapes::escape::is_unicode;
 use rx_base::{Counter, Span};
 use rx_model::Mode;
 use rx_scan::{SpanFactory, State};
-use rx_units::{CodePoint, Reader};
+use rx_units::{Ahead, Reader, UnitSource};
 use std::alloc::Global;
 
 /// What the parts of a pattern are read from and with: a reader whose offsets fit the spans that are made of them, the state of the
 /// pattern, memory, and a counter of steps.
 // Why: docs/DECISIONS.md, 102.
 #[derive(Drop)]
-pub struct Reading<'reader, 'text, 'state, 'spans, 'steps, C> {
-    pub reader: &'reader mut Reader<'text>,
+pub struct Reading<'reader, 'text, 'state, 'spans, 'steps, S: UnitSource, C> {
+    pub reader: &'reader mut Reader<'text, S>,
     pub state: &'state State,
     pub spans: &'spans SpanFactory,
     pub alloc: Global,
@@ -28,16 +28,16 @@ pub struct Reading<'reader, 'text, 'state, 'spans, 'steps, C> {
     pub ghost fits: { AreFitting spans.now reader.now } by { Prim.hlevel props },
 }
 
-impl<C: Counter> Reading<'_, '_, '_, '_, '_, C> {
+impl<S: UnitSource, C: Counter> Reading<'_, '_, '_, '_, '_, S, C> {
     ghost use Rattle.rx_class.specs.Readings.{ReadsOn};
 
     /// The units from the place to the end.
-    #[inline]
-    pub(crate) fn units(&self) -> &[CodePoint]
-        ensures units { result.now ≡ rest self.now.reader.now }
-        ensures code_points { All (λ unit. unit.value ≤ 0x10FFFF) result.now }
+    #[inline(always)]
+    pub(crate) fn units(&self) -> Ahead<'_, S::Unit>
+        ensures units { result ≡ rest self.now.reader.now }
+        ensures code_points { All (λ unit. unit.value ≤ 0x10FFFF) result }
     {
-        self.reader.remaining_code_points()
+        self.reader.ahead()
     }
 
     /// The value of the unit at the place.

@@ -1,5 +1,5 @@
 -- What stands after a backslash in a class, and what is answered of it.
-use Rattle.std.proofs.Common.{◌≡◌, ◌≢◌, refl, sym, ap, ◌∙◌, subst, ℕ, suc, ◌+◌, ◌-◌, ◌≤◌, ◌==◌, nat_le, Bool, true, false, not, ◌&&◌, Option, Some, None, Ok, Err, All, get_or, List, [], ◌∷◌, ◌++◌, length, drop, min, codes, arith, inl, inr, length-append}
+use Rattle.std.proofs.Common.{◌≡◌, ◌≢◌, refl, sym, ap, ◌∙◌, subst, ℕ, suc, ◌+◌, ◌-◌, ◌<◌, ◌≤◌, ◌==◌, nat_le, Bool, true, false, not, ◌&&◌, Option, Some, None, Ok, Err, All, List, [], ◌∷◌, ◌++◌, length, drop, min, codes, arith, inl, inr, length-append}
 use Rattle.rx_class.proofs.Common.{cases_Bool, eqb-true, false_from_ne_true, not-true, true≢false, nat_tests, le-leb, length-map, All-head, is_one_of, Diagnostic, Fault, Span, control_escape_value}
 use Rattle.rx_class.proofs.Common.{hex_digit_value, is_decimal_digit, Character, CharacterClassEscapeKind, CharacterKind, UnicodePropertyEscape, CodePoint, Cursor, move_on, offset_of, rest}
 use Rattle.rx_class.proofs.Common.{values, front_is, is_hex_digit, IsAtomPlace, atom_obeys, character, class_escape_text, Environment, is_sets, is_unicode, begins_property, span_between}
@@ -8,6 +8,8 @@ use Rattle.rx_class.proofs.Common.{atom_of, atom_span, back, AnswersFound, class
 use Rattle.rx_base.specs.declared.diagnostic.Diagnostic.TheVariants.{InvalidClassAtom}
 use Rattle.rx_base.specs.declared.fault.Fault.TheVariants as fault
 use Rattle.rx_tables.specs.Characters.{control_letter_value}
+use Rattle.rx_units.specs.Cursor.{front_kind}
+use Rattle.rx_units.specs.declared.code_point.EscapeKind.{EscapeKind}
 use Rattle.rx_ast.specs.declared.leaf.CharacterClassEscape.{CharacterClassEscape}
 use Rattle.rx_ast.specs.declared.leaf.CharacterKind.TheVariants as kinds
 use Rattle.rx_model.specs.Refusals.ClassCauses.{escape_in_class as cause_of_escape, invalid_atom, property_in_class}
@@ -225,6 +227,11 @@ nothing_so_far {e} {added} {start} {old} {new} whole still alone class_gone prop
       },
     )
 
+-- Where an item stands a unit does.
+pub stands_some : {us : List CodePoint} → StandsItem us → 0 < length us
+stands_some {us = []} stands = absurd (stands.some refl)
+stands_some {us = u ∷ us} stands = omega arith
+
 -- A unit that is no backslash stands for itself, and a `-` is a symbol.
 module _ (e : Environment) (no_sets : is_sets e.mode ≡ false) where
   itself : (u : CodePoint) (more : List CodePoint) → (u.value == 92) ≡ false → (u.value == 93) ≡ false → (b : Bool) → (u.value == 45) ≡ b → SpellsClassCharacter e (kind_in_class u) u.value (u ∷ []) more
@@ -232,22 +239,23 @@ module _ (e : Environment) (no_sets : is_sets e.mode ≡ false) where
       let value = eqb-true u.value 45 h in rw h (subst (λ v. SpellsClassCharacter e kinds.Symbol v (u ∷ []) more) (sym value) (row.hyphen u (hyphen_without_sets e.mode no_sets) value))
   itself u more k l false h = rw h (row.raw u (raw_without_sets e.mode u.value (values more) no_sets ∙ rw (h, k, l) refl))
 
-  pub unit_common : (us : List CodePoint) (none : CodePoint) (it : CommonAtom) → StandsItem us → All (λ u. u.value ≤ 0x10FFFF) us → (get_or us 0 none).value ≢ 92
-      → it.kind ≡ kind_in_class (get_or us 0 none) → it.value ≡ (get_or us 0 none).value → it.length ≡ 1 → IsCommonAtom e us it
-  unit_common [] none it stands small no_backslash k v n = absurd (stands.some refl)
-  unit_common (u ∷ us) none it stands small no_backslash k v n =
-      let other = false_from_ne_true (u.value == 92) (λ t. no_backslash (eqb-true u.value 92 t)) in
+  pub unit_common : (us : List CodePoint) (it : CommonAtom) {v : ℕ} {w : List ℕ} {k : EscapeKind} → StandsItem us → All (λ u. u.value ≤ 0x10FFFF) us → values us ≡ v ∷ w → k ≡ front_kind us → v ≢ 92
+      → ((u : CodePoint) → u.value ≡ v → u.escape_kind ≡ k → it.kind ≡ kind_in_class u) → it.value ≡ v → it.length ≡ 1 → IsCommonAtom e us it
+  unit_common [] it stands small here written no_backslash kind is n = absurd (stands.some refl)
+  unit_common (u ∷ us) it {v} stands small here written no_backslash kind is n =
+      let same : u.value ≡ v = cc here in
+      let other = false_from_ne_true (u.value == 92) (λ t. no_backslash (sym same ∙ eqb-true u.value 92 t)) in
       record {
-        read = rw (k, v, n) (atom_is_read e (character (kind_in_class u) u.value) (u ∷ []) us (itself u us other stands.no_closer (u.value == 45) refl));
-        code_point = rw v (All-head (λ u. u.value ≤ 0x10FFFF) u us small);
+        read = rw (kind u same (sym written), is, sym same, n) (atom_is_read e (character (kind_in_class u) u.value) (u ∷ []) us (itself u us other stands.no_closer (u.value == 45) refl));
+        code_point = rw (is, sym same) (All-head (λ u. u.value ≤ 0x10FFFF) u us small);
       }
 
 -- A backslash and an escape that most are stand for the same in a class.
-pub escape_common : (e : Environment) (us : List CodePoint) (none : CodePoint) (it : CommonEscape) {unicode : Bool} → StandsItem us → (get_or us 0 none).value ≡ 92 → is_unicode e.mode ≡ unicode
+pub escape_common : (e : Environment) (us : List CodePoint) (it : CommonEscape) {unicode : Bool} {v : ℕ} {w : List ℕ} → StandsItem us → values us ≡ v ∷ w → v ≡ 92 → is_unicode e.mode ≡ unicode
     → IsCommonEscape unicode (drop 1 us) it → IsCommonAtom e us (record { kind = it.kind; value = it.value; length = it.length + 1 })
-escape_common e [] none it stands backslash same common = absurd (stands.some refl)
-escape_common e (u ∷ us) none it stands backslash same common =
-    let f = any_there e (character it.kind it.value) (it.length + 1) u us it.kind it.value it.length backslash (any_spelled true e it.kind it.value it.length (values us) (common.read true e same)) refl in
+escape_common e [] it stands here backslash same common = absurd (stands.some refl)
+escape_common e (u ∷ us) it stands here backslash same common =
+    let f = any_there e (character it.kind it.value) (it.length + 1) u us it.kind it.value it.length (let first : u.value ≡ 92 = cc (here, backslash) in first) (any_spelled true e it.kind it.value it.length (values us) (common.read true e same)) refl in
     record {
       read = ap (atom_at e) f.whole ∙ atom_is_read e (character it.kind it.value) f.w f.rest f.spelled ∙ ap (atom_read (character it.kind it.value)) f.count;
       code_point = common.small;

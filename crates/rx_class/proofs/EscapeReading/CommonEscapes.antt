@@ -1,7 +1,6 @@
 -- Escapes that are read alike in classes and outside them, in each environment.
-use Rattle.std.proofs.Common.{◌≡◌, refl, sym, ap, ◌∙◌, subst, ℕ, ◌-◌, ◌≤◌, ◌==◌, nat_le, Bool, true, false, ◌&&◌, Some, None, List, [], ◌∷◌, length, drop, take, get_or, codes, arith, inl, inr, option_map, if◌then◌else◌}
+use Rattle.std.proofs.Common.{◌≡◌, refl, sym, ap, ◌∙◌, ℕ, ◌-◌, ◌≤◌, ◌==◌, nat_le, Bool, true, false, ◌&&◌, Some, None, List, [], ◌∷◌, length, drop, codes, arith, inl, inr, option_map, if◌then◌else◌}
 use Rattle.std.proofs.lemmas.Bool.{and_left, eq-eqb}
-use Rattle.std.proofs.lemmas.List.{take_all}
 use Rattle.rx_base.specs.Characters.{is_lead, is_within}
 use Rattle.rx_class.proofs.Common.{CodePoint, Environment, cases_Bool, chosen, cond-false, control_escape_value, is_one_of, is_unicode, nat_tests, starts, values, values_length}
 use Rattle.rx_tables.specs.Characters.{is_reserved_punctuator, short_escape_value}
@@ -90,28 +89,16 @@ four_read : (u : Bool) (a b c d v : ℕ) (w : List ℕ) → hex_number (a ∷ b 
 unfolding escape_at
 four_read u a b c d v w h alone = ap (λ o. unicode_read (after_u u (option_map (λ v. (v, w)) o) (a ∷ b ∷ c ∷ d ∷ w))) h ∙ ap unicode_read (no_pair (u && is_lead v) v w alone)
 
-module _ (unicode_mode : Bool) where
-  -- no lead surrogate stands before another escape, where pairs are read
-  abbrev BeginsNoPair : ℕ → List CodePoint → Type 0
-  BeginsNoPair v us = ((unicode_mode && is_lead v) && starts 92 (values (take (length us - 4) (drop 4 us)))) ≡ false
-
-  four_common : (u : CodePoint) (us : List CodePoint) (v : ℕ) → u.value ≡ 117 → four_next (values us) ≡ Some v → BeginsNoPair v us → IsCommonEscape unicode_mode (u ∷ us) (record { kind = kinds.UnicodeEscape; value = v; length = 5 })
-  four_common u (a ∷ b ∷ c ∷ d ∷ us) v is four alone =
-      let w = values (a ∷ b ∷ c ∷ d ∷ us) in
+module _ (unicode_mode : Bool) (us : List CodePoint) where
+  pub unicode_common : (w : List ℕ) (v : ℕ) → values us ≡ 117 ∷ w → four_next w ≡ Some v → ((unicode_mode && is_lead v) && starts 92 (drop 4 w)) ≡ false
+      → IsCommonEscape unicode_mode us (record { kind = kinds.UnicodeEscape; value = v; length = 5 })
+  unicode_common (a ∷ b ∷ c ∷ d ∷ w) v whole four alone =
+      let more = a ∷ b ∷ c ∷ d ∷ w in
       let first : BeginsEscapeAlone 117 = record { no_letter = refl; no_digit = refl; no_punctuator = refl; small = refl } in
-      let after = ap (λ us. (unicode_mode && is_lead v) && starts 92 (values us)) (sym (take_all (length (a ∷ b ∷ c ∷ d ∷ us) - 4) us (omega arith))) ∙ alone in
-      common 117 w first unicode_mode (u ∷ a ∷ b ∷ c ∷ d ∷ us) _ (ap (λ c. c ∷ w) is) (omega arith) (λ inside e m.
-      ap (λ r. or_legacy r (is_unicode e.mode) (legacy_at inside e (117 ∷ w))) (ap (λ u. escape_at u (117 ∷ w)) m ∙ four_read unicode_mode a.value b.value c.value d.value v (values us) four after))
-  four_common u us v is four alone = absurd (let no : ⊥ = cc four in no)
+      common 117 more first unicode_mode us _ whole (omega arith) (λ inside e m.
+      ap (λ r. or_legacy r (is_unicode e.mode) (legacy_at inside e (117 ∷ more))) (ap (λ u. escape_at u (117 ∷ more)) m ∙ four_read unicode_mode a b c d v w four alone))
+  unicode_common w v whole four alone = absurd (let no : ⊥ = cc four in no)
 
-  pub unicode_common : (us : List CodePoint) (none : CodePoint) (v : ℕ) → 1 ≤ length us → (get_or us 0 none).value ≡ 117 → four_next (values (take (length us - 1) (drop 1 us))) ≡ Some v
-      → BeginsNoPair v (take (length us - 1) (drop 1 us)) → IsCommonEscape unicode_mode us (record { kind = kinds.UnicodeEscape; value = v; length = 5 })
-  unicode_common [] none v some is four alone = absurd (omega arith)
-  unicode_common (u ∷ us) none v some is four alone =
-      let all = take_all (length (u ∷ us) - 1) us (omega arith) in
-      four_common u us v is (ap (λ us. four_next (values us)) (sym all) ∙ four) (subst (BeginsNoPair v) all alone)
-
-  pub short_common : (us : List CodePoint) (none : CodePoint) (v : ℕ) → 1 ≤ length us → short_escape_value (get_or us 0 none).value ≡ Some v
-      → IsCommonEscape unicode_mode us (record { kind = if v == (get_or us 0 none).value then kinds.Identifier else kinds.SingleEscape; value = v; length = 1 })
-  short_common [] none v some h = absurd (omega arith)
-  short_common (u ∷ us) none v some h = common u.value (values us) (short_alone u.value v h) unicode_mode (u ∷ us) _ refl (omega arith) (λ inside e m. short_read inside e u.value (values us) v h)
+  pub short_common : (c : ℕ) (w : List ℕ) (v : ℕ) → values us ≡ c ∷ w → short_escape_value c ≡ Some v
+      → IsCommonEscape unicode_mode us (record { kind = if v == c then kinds.Identifier else kinds.SingleEscape; value = v; length = 1 })
+  short_common c w v whole h = common c w (short_alone c v h) unicode_mode us _ whole (omega arith) (λ inside e m. short_read inside e c w v h)

@@ -1,7 +1,10 @@
 -- The words of the tables of properties.
-use Rattle.std.proofs.Common.{◌≡◌, ℕ, true, List, codes, refl, sym, ◌∙◌, arith, ◌<◌, nat_lt, length, get_or}
-use Rattle.rx_class.proofs.Common.{list_all, nat_tests, CodePoint, values, All-weaker, is_unicode_property_value_character}
+use Rattle.std.proofs.Common.{◌≡◌, ℕ, true, List, codes, refl, sym, ◌∙◌, subst, arith, ◌<◌, nat_lt, length, get_or, inl, inr}
+use Rattle.std.specs.Prelude.{Contains}
+use Rattle.rx_tables.specs.Properties.{IsValidUnicodeProperty, general_category_names, script_names}
+use Rattle.rx_class.proofs.Common.{list_all, nat_tests, All-weaker, is_unicode_property_value_character}
 use Rattle.std.specs.Str.{chars}
+use Rattle.rx_units.specs.Stored.{values_of}
 use Rattle.std.proofs.lemmas.Str.{chars-IsAscii}
 use Rattle.std.proofs.lemmas.Str.Ascii.{IsAscii-from_all}
 use Rattle.std.proofs.lemmas.List.Folds.{list_all-map}
@@ -19,7 +22,18 @@ category_text =
 small : (c : ℕ) → is_unicode_property_value_character c ≡ true → c < 128
 small c h = grind (arith, nat_tests)
 
-pub small_value : (us : List CodePoint) (i : ℕ) (d : CodePoint) → list_all is_unicode_property_value_character (values us) ≡ true → i < length us → (get_or us i d).value < 128
-small_value us i d all within =
-    let each = AllPass-from_list_all (λ (u : CodePoint). is_unicode_property_value_character u.value) us (sym (list_all-map is_unicode_property_value_character (λ (u : CodePoint). u.value) us) ∙ all) in
-    small (get_or us i d).value (All-get_or (λ (u : CodePoint). is_unicode_property_value_character u.value ≡ true) us i d within each)
+pub small_value : {Item : Type 0} (value : Item → ℕ) (xs : List Item) (i : ℕ) (d : Item) → list_all is_unicode_property_value_character (values_of value xs) ≡ true → i < length xs → value (get_or xs i d) < 128
+small_value value xs i d all within =
+    let each = AllPass-from_list_all (λ x. is_unicode_property_value_character (value x)) xs (sym (list_all-map is_unicode_property_value_character value xs) ∙ all) in
+    small (value (get_or xs i d)) (All-get_or (λ x. is_unicode_property_value_character (value x) ≡ true) xs i d within each)
+
+short_among : (names : List (List ℕ)) → list_all (λ w. nat_lt (length w) 18) names ≡ true → (name : List ℕ) → Contains names name → length name < 18
+short_among names all name among =
+    let each = All-get_or (λ w. nat_lt (length w) 18 ≡ true) names among.0 name among.1 (AllPass-from_list_all (λ w. nat_lt (length w) 18) names all) in
+    ltb-true (length name) 18 (subst (λ w. nat_lt (length w) 18 ≡ true) among.2 each)
+
+-- a property's name is short
+pub name_is_short : (name value : List ℕ) → IsValidUnicodeProperty name value → length name < 18
+unfolding general_category_names script_names
+name_is_short name value (inl known) = short_among general_category_names refl name known.0
+name_is_short name value (inr known) = short_among script_names refl name known.0

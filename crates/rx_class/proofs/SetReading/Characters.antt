@@ -1,15 +1,19 @@
 -- Characters and ends of ranges in a class with `v`: what is spelled is read, what is read is spelled, and what is answered.
-use Rattle.std.proofs.Common.{◌≡◌, ◌≢◌, refl, sym, ap, ◌∙◌, subst, ℕ, ◌+◌, ◌≤◌, ◌==◌, true, false, not, All, Ok, Err, List, [], ◌∷◌, ◌++◌, length, drop, arith, inl, inr, length-append}
+use Rattle.std.proofs.Common.{◌≡◌, ◌≢◌, refl, sym, ap, ap₂, ◌∙◌, subst, ℕ, ◌+◌, ◌≤◌, ◌==◌, true, false, cond, not, All, Ok, Err, List, [], ◌∷◌, ◌++◌, length, drop, arith, inl, inr, length-append}
 use Rattle.rx_class.proofs.Common.{eqb-true, cond-true, cond-false, cond_both, false_from_ne_true, nat_tests, length-map, map-append, All-head, Diagnostic, InvalidUnicodeEscapeSequence}
 use Rattle.rx_class.proofs.Common.{TooLargeNumberDigits, Hex, Span, Character, CharacterKind, CodePoint, Cursor, move_on, offset_of, rest, values, chosen, Unicode, Sets, character}
 use Rattle.rx_class.proofs.Common.{Environment, is_sets, is_unicode, IsEscapeCause, invalid_escape, too_many_hex_digits, span_between, any_there, atom_some, sets_is, escape_first, differs, starts}
 use Rattle.rx_class.proofs.Common.{SetCharacter, span_to, KeepsUnits, GivesSetCharacter, seen_character}
+use Rattle.std.proofs.lemmas.Bool.{ne_eqb}
 use Rattle.rx_tables.specs.Characters.{is_reserved_punctuator}
 use Rattle.rx_ast.specs.declared.leaf.CharacterKind.TheVariants as kinds
+use Rattle.rx_units.specs.Cursor.{front_kind}
 use Rattle.rx_units.specs.Digits.{PassesHex}
+use Rattle.rx_units.specs.declared.code_point.EscapeKind.{EscapeKind}
 use Rattle.rx_model.specs.Characters.Decoding.{Decoded, value, decoding_of}
 use Rattle.rx_model.specs.Characters.EscapeFronts.{EscapeRead, escaped, nothing, too_many, no_unicode, escape_at, unicode_read}
 use Rattle.rx_model.specs.Characters.Escapes.{SpellsEscape}
+use Rattle.rx_model.specs.Characters.UnitKinds.{unit_kind}
 use Rattle.rx_model.specs.Classes.ClassRows.{SpellsClassCharacter, SpellsInClassAlone, has_hyphen, is_dashed, stands_raw_in_class}
 use Rattle.rx_model.specs.Classes.ClassRows as row
 use Rattle.rx_model.proofs.Characters.Backslashes.{begins}
@@ -25,17 +29,26 @@ use Rattle.rx_class.proofs.Keeping.{moved_keeps, passes_moved}
 abbrev pub with_v : Environment
 with_v = record { mode = Sets; groups = 0; named = true; buffer_boundaries = true }
 
-pub set_character_after : (u : CodePoint) (us : List CodePoint) → u.value ≡ 92 → set_character_at (u ∷ us) ≡ after_backslash (set_escape_at (values us))
+-- by the values of the units, and how the first was written
+abbrev pub character_by : EscapeKind → List ℕ → EscapeRead
+character_by kind [] = nothing
+character_by kind (c ∷ w) = cond (c == 92) (after_backslash (set_escape_at w)) (cond (stands_raw_in_class Sets c w) (escaped (unit_kind kind) c 1) nothing)
+
+pub set_character_is : (us : List CodePoint) → set_character_at us ≡ character_by (front_kind us) (values us)
 unfolding set_character_at
-set_character_after u us h = cond-true (u.value == 92) _ _ (ap (λ c. c == 92) h)
+set_character_is [] = refl
+set_character_is (u ∷ us) = refl
+
+pub set_character_after : (us : List CodePoint) {w : List ℕ} → values us ≡ 92 ∷ w → set_character_at us ≡ after_backslash (set_escape_at w)
+set_character_after us h = set_character_is us ∙ ap (character_by (front_kind us)) h
+
+pub nothing_read : (us : List CodePoint) {c : ℕ} {w : List ℕ} → values us ≡ c ∷ w → c ≢ 92 → stands_raw_in_class Sets c w ≡ false → nothing ≡ set_character_at us
+nothing_read us {c} {w} h no_backslash no_raw =
+    sym (set_character_is us ∙ ap (character_by (front_kind us)) h ∙ cond-false (c == 92) _ _ (ne_eqb c 92 no_backslash) ∙ cond-false (stands_raw_in_class Sets c w) _ _ no_raw)
 
 -- A backslash and `u` are read as something.
 pub u_is_read : (us : List CodePoint) (w : List ℕ) → values us ≡ 92 ∷ 117 ∷ w → set_character_at us ≢ nothing
-u_is_read [] w h none = cc h
-u_is_read (u ∷ us) w h none =
-    let first : u.value ≡ 92 = cc h in
-    let others : values us ≡ 117 ∷ w = cc h in
-    reads (decoding_of true (117 ∷ w)) (ap after_backslash (sym (escape_u w)) ∙ ap (λ w. after_backslash (set_escape_at w)) (sym others) ∙ sym (set_character_after u us first) ∙ none)
+u_is_read us w h none = reads (decoding_of true (117 ∷ w)) (ap after_backslash (sym (escape_u w)) ∙ sym (set_character_after us h) ∙ none)
   where
     reads : (d : Decoded) → after_backslash (unicode_read d) ≢ nothing
     reads (value v n) h = cc h
@@ -67,8 +80,7 @@ module _ (e : Environment) (sets : is_sets e.mode ≡ true) where
   after_read : (k : CharacterKind) (v : ℕ) (backslash : CodePoint) (following rest : List CodePoint) → backslash.value ≡ 92
       → set_escape_at (values following ++ values rest) ≡ escaped k v (length (values following)) → set_character_at (backslash ∷ (following ++ rest)) ≡ escaped k v (length (backslash ∷ following))
   after_read k v backslash following rest h read =
-      set_character_after backslash (following ++ rest) h
-      ∙ ap (λ w. after_backslash (set_escape_at w)) (map-append (λ (u : CodePoint). u.value) following rest)
+      set_character_after (backslash ∷ (following ++ rest)) (ap₂ ◌∷◌ h (map-append (λ (u : CodePoint). u.value) following rest))
       ∙ ap after_backslash read
       ∙ ap (escaped k v) (omega (arith, length-map following (λ (u : CodePoint). u.value)))
 

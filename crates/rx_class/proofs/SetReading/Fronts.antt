@@ -16,7 +16,7 @@ use Rattle.rx_class.proofs.Operators.{begins_cases}
 use Rattle.rx_class.proofs.SetReading.Characters.{set_character_after, spelled_set_character, u_is_read}
 
 -- by the values of the units
-next_is : (us : List CodePoint) (c : ℕ) (w : List ℕ) → values us ≡ c ∷ w → set_front_at us ≡ front_by c w (character_front (set_character_at us))
+pub next_is : (us : List CodePoint) (c : ℕ) (w : List ℕ) → values us ≡ c ∷ w → set_front_at us ≡ front_by c w (character_front (set_character_at us))
 unfolding set_front_at
 next_is [] c w h = absurd (let no : ⊥ = cc h in no)
 next_is (u ∷ us) c w h =
@@ -45,7 +45,7 @@ unfolding set_character_at
 character_is [] some = absurd (some refl)
 character_is (u ∷ us) some =
     next_is (u ∷ us) u.value (values us) refl
-    ∙ cond_both (u.value == 92) _ _ Stands (λ h. ap (λ c. front_by c (values us) (character_front (after_backslash (set_escape_at (values us))))) (eqb-true u.value 92 h) ∙ after (values us) (λ no. some (set_character_after u us (eqb-true u.value 92 h) ∙ ap after_backslash no)))
+    ∙ cond_both (u.value == 92) _ _ Stands (λ h. ap (λ c. front_by c (values us) (character_front (after_backslash (set_escape_at (values us))))) (eqb-true u.value 92 h) ∙ after (values us) (λ no. some (set_character_after (u ∷ us) (ap (λ c. c ∷ values us) (eqb-true u.value 92 h)) ∙ ap after_backslash no)))
     (λ other. cond_both (stands_raw_in_class Sets u.value (values us)) _ _ Stands (λ h. raw_front u.value (values us) _ h) (λ h. absurd (some (cond-false (u.value == 92) _ _ other ∙ cond-false (stands_raw_in_class Sets u.value (values us)) _ _ h))))
   where
     Stands : EscapeRead → Type 0
@@ -92,7 +92,7 @@ module _ (u : CodePoint) (us : List CodePoint) where
 
     other_stands : (found : Option CharacterClassEscapeKind) → class_escape_front (values us) ≡ found → StandsFront (u ∷ us) (escape_front found (set_escape_at (values us)))
     other_stands (Some k) h = escape_stands (values us) k refl h
-    other_stands None h = character_stands (after_backslash (set_escape_at (values us))) (set_character_after u us is)
+    other_stands None h = character_stands (after_backslash (set_escape_at (values us))) (set_character_after (u ∷ us) (ap (λ c. c ∷ values us) is))
 
     escaped_stands : StandsFront (u ∷ us) (escaped_front (values us))
     escaped_stands =

@@ -1,7 +1,7 @@
 -- The pace of a reader in a class with `v`: how much is left where it moved, and how few steps were taken to look at what it moved over.
-use Rattle.std.proofs.Common.{◌≡◌, refl, sym, ap, ◌∙◌, subst, ℕ, ◌+◌, ◌-◌, ◌*◌, ◌≤◌, ◌==◌, true, All, Result, Ok, Err, List, [], ◌∷◌, get_or, length, drop, take, arith, length-drop, length-take}
+use Rattle.std.proofs.Common.{◌≡◌, refl, sym, ap, ◌∙◌, subst, ℕ, ◌+◌, ◌*◌, ◌≤◌, ◌==◌, true, All, Result, Ok, Err, List, [], ◌∷◌, length, arith, length-drop}
 use Rattle.rx_class.proofs.Common.{cond-true, cond_both, All-tail, CharacterKind, Rises, CodePoint, Cursor, move_on, rest, TakesSteps, units_left, values, character, Environment, atom_some}
-use Rattle.rx_class.proofs.Common.{ClassBuilder, SetCharacter, seen_character, AddsToSets, most_front_looks, most_set_looks}
+use Rattle.rx_class.proofs.Common.{ClassBuilder, SetCharacter, seen_character, AddsToSets, most_front_looks, most_set_looks, starts}
 use Rattle.rx_model.specs.Characters.EscapeFronts.{EscapeRead, escaped, nothing, too_many}
 use Rattle.rx_model.specs.Classes.ClassRows.{is_dashed}
 use Rattle.rx_class.specs.SetReading.Fronts.{FrontRead, StandsFront, character_front, character_next, range_end_at, set_character_at, set_front_at}
@@ -39,21 +39,16 @@ character_left old new {k} {v} {n} h moves =
     let few : most_set_looks (rest old) (escaped k v n) ≤ n + 3 = looks_below (rest old) (escaped k v n) (n + 3) (λ units some. omega arith) in
     omega (arith, few, positive, f.count, left)
 
--- the units after the first
-abbrev pub units_after : List CodePoint → List CodePoint
-units_after us = take (length us - 1) (drop 1 us)
-
 -- after a backslash, which units begin with
-module _ (none : CodePoint) where
-  pub backslash_looks : (us : List CodePoint) (read : EscapeRead) → (get_or us 0 none).value ≡ 92 → 1 ≤ length us → most_set_looks us read ≡ most_after_backslash (length (units_after us)) read
-  backslash_looks [] read is first = absurd (omega arith)
-  backslash_looks (u ∷ us) read is first =
-      cond-true (u.value == 92) _ _ (ap (λ c. c == 92) is)
-      ∙ ap (λ units. most_after_backslash units read) (let same : length us ≡ length (units_after (u ∷ us)) = omega (arith, length-take (length (u ∷ us) - 1) us) in same)
+module _ (n : ℕ) {w : List ℕ} where
+  pub backslash_looks : (us : List CodePoint) (read : EscapeRead) → values us ≡ 92 ∷ w → length us ≡ n + 1 → most_set_looks us read ≡ most_after_backslash n read
+  backslash_looks [] read is more = absurd (omega arith)
+  backslash_looks (u ∷ us) read is more =
+      cond-true (u.value == 92) _ _ (ap (starts 92) is) ∙ ap (λ units. most_after_backslash units read) (let same : length us ≡ n = omega arith in same)
 
-  pub backslash_front_looks : (us : List CodePoint) (read : FrontRead) → (get_or us 0 none).value ≡ 92 → 1 ≤ length us → most_front_looks us read ≡ most_front_after (length (units_after us)) read
-  backslash_front_looks us (character_next read) is first = backslash_looks us read is first
-  backslash_front_looks us read is first = refl
+  pub backslash_front_looks : (us : List CodePoint) (read : FrontRead) → values us ≡ 92 ∷ w → length us ≡ n + 1 → most_front_looks us read ≡ most_front_after n read
+  backslash_front_looks us (character_next read) is more = backslash_looks us read is more
+  backslash_front_looks us read is more = refl
 
 -- What is found is a front.
 pub front_looks : (us : List CodePoint) (read : EscapeRead) → most_front_looks us (character_front read) ≡ most_set_looks us read

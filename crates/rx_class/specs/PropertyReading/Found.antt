@@ -24,9 +24,9 @@ use Rattle.rx_class.specs.declared.properties.found.PropertyHalt.TheVariants as 
 use Rattle.rx_class.specs.declared.properties.form.Pair.{Pair}
 
 -- a name and a value at the front, or none
-abbrev pub IsPairFound : List ℕ → Option Pair → Type 0
+abbrev pub IsPairFound : {U : Type 0} → List ℕ → Option (Pair U) → Type 0
 IsPairFound w None = (name value following : List ℕ) → HasPair w name value following → ⊥
-IsPairFound w (Some p) = HasPair w (values p.name.now) (values p.value.now) (values p.following.now)
+IsPairFound w (Some p) = HasPair w (values p.name) (values p.value) (values p.following)
 
 -- what a word without a value names
 abbrev pub IsLone : List ℕ → Lone → Type 0

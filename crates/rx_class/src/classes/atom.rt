@@ -3,6 +3,7 @@ ghost use Rattle.rx_ast.specs.ClassTree.{mirror_contents};
 ghost use Rattle.rx_units.specs.Cursor.{move_on, rest};
 ghost use Rattle.rx_units.specs.Pace.{IsPaced, TakesSteps};
 ghost use Rattle.rx_units.specs.Units.{values};
+ghost use Rattle.rx_units.specs.declared.code_point.CodePoint.{CodePoint as UnitValue};
 ghost use Rattle.rx_model.specs.Characters.UnitKinds.{unit_kind};
 ghost use Rattle.rx_model.specs.Inputs.Environment.{Environment, is_sets, is_unicode};
 ghost use Rattle.rx_class.specs.EscapeReading.Answers.{IsAfterBackslash, environment_of};
@@ -14,7 +15,7 @@ use rx_ast::{
     Character, CharacterClassContents, CharacterClassEscape, CharacterKind, UnicodePropertyEscape,
 };
 use rx_base::{Counter, Diagnostic, Fault, OutOfMemory, Span};
-use rx_units::{CodePoint, EscapeKind, tail};
+use rx_units::{Ahead, EscapeKind, Unit, UnitSource};
 use std::alloc::Global;
 
 /// What stands alone in a class, or at an end of a range (ClassAtom of ECMA-262, 22.2.1).
@@ -63,7 +64,7 @@ impl ClassAtom {
     }
 }
 
-impl<C: Counter> Reading<'_, '_, '_, '_, '_, C> {
+impl<S: UnitSource, C: Counter> Reading<'_, '_, '_, '_, '_, S, C> {
     ghost use Rattle.rx_class.specs.Readings.{ReadsOn};
 
     /// Reads the atom that stands next in a class without `v`, and moves over it.
@@ -75,13 +76,15 @@ impl<C: Counter> Reading<'_, '_, '_, '_, '_, C> {
         ensures steps { TakesSteps 6 (C.count self.old.steps.now) (C.count self.new.steps.now) self.old.reader.now self.new.reader.now result }
         ensures on { ReadsOn self.old self.new }
     {
-        let unit = self.units()[0];
-        if unit.value == '\\' as u32 {
+        let units = self.units();
+        let first = units.items()[0].value();
+        if first == '\\' as u32 {
             let start = self.offset();
             self.advance();
             return self.escaped_atom(start);
         }
-        Ok(ClassAtom::Character(self.take_common(unit_atom(unit))))
+        let atom = unit_atom(first, units.escape_kind());
+        Ok(ClassAtom::Character(self.take_common(atom)))
     }
 
     /// Moves over an atom that was found at the place, and gives its character. What stands after a backslash and a letter are digits, and
@@ -115,13 +118,13 @@ impl<C: Counter> Reading<'_, '_, '_, '_, '_, C> {
         ensures on { ReadsOn self.old self.new }
     {
         let unicode = self.is_unicode();
-        if let Some(value) = alone_in_class(self.units(), unicode) {
+        if let Some(value) = alone_in_class(&self.units(), unicode) {
             self.advance();
             let span = self.span_from(start);
             let kind = CharacterKind::SingleEscape;
             return Ok(ClassAtom::Character(Character { span, kind, value }));
         }
-        if let Some(kind) = class_escape_at(self.units()) {
+        if let Some(kind) = class_escape_at(&self.units()) {
             self.advance();
             let span = self.span_from(start);
             return Ok(ClassAtom::Escape(CharacterClassEscape { span, kind }));
@@ -152,16 +155,16 @@ impl<C: Counter> Reading<'_, '_, '_, '_, '_, C> {
 /// The character that the units begin with as an atom of a class without `v`, where it is a unit that stands for itself or a common
 /// escape. `None` does not mean that no character stands there.
 #[inline(always)]
-pub fn common_atom_at(units: &[CodePoint], unicode_mode: bool) -> Option<CommonAtom>
+pub fn common_atom_at<U: Unit>(units: &Ahead<'_, U>, unicode_mode: bool) -> Option<CommonAtom>
     requires stands { StandsItem units.now }
     requires code_points { All (λ unit. unit.value ≤ 0x10FFFF) units.now }
     ensures { IfSome result (λ it. (e : Environment) → is_unicode e.mode ≡ unicode_mode → is_sets e.mode ≡ false → IsCommonAtom e units.now it) }
 {
-    let unit = units[0];
-    if unit.value != '\\' as u32 {
-        return Some(unit_atom(unit));
+    let first = units.items()[0].value();
+    if first != '\\' as u32 {
+        return Some(unit_atom(first, units.escape_kind()));
     }
-    let escape = common_escape_at(tail(units, 1), unicode_mode)?;
+    let escape = common_escape_at(&units.from(1), unicode_mode)?;
     Some(CommonAtom {
         kind: escape.kind,
         value: escape.value,
@@ -171,27 +174,27 @@ pub fn common_atom_at(units: &[CodePoint], unicode_mode: bool) -> Option<CommonA
 
 /// A unit that stands for itself, as an atom.
 #[inline(always)]
-fn unit_atom(unit: CodePoint) -> CommonAtom
-    ensures kind { result.kind ≡ kind_in_class unit }
-    ensures value { result.value ≡ unit.value }
+fn unit_atom(value: u32, escape_kind: EscapeKind) -> CommonAtom
+    ensures kind { (unit : UnitValue) → unit.value ≡ value → unit.escape_kind ≡ escape_kind → result.kind ≡ kind_in_class unit }
+    ensures value { result.value ≡ value }
     ensures length { result.length ≡ 1 }
 {
     CommonAtom {
-        kind: kind_in_class(unit),
-        value: unit.value,
+        kind: kind_in_class(value, escape_kind),
+        value,
         length: 1,
     }
 }
 
 /// The kind of a character that is one unit of a class. A `-` is a symbol, however it was written.
 #[inline]
-fn kind_in_class(unit: CodePoint) -> CharacterKind
-    ensures { result ≡ kind_in_class unit }
+fn kind_in_class(value: u32, escape_kind: EscapeKind) -> CharacterKind
+    ensures { (unit : UnitValue) → unit.value ≡ value → unit.escape_kind ≡ escape_kind → result ≡ kind_in_class unit }
 {
-    if unit.value == '-' as u32 {
+    if value == '-' as u32 {
         CharacterKind::Symbol
     } else {
-        unit_kind(unit.escape_kind)
+        unit_kind(escape_kind)
     }
 }
 
@@ -208,10 +211,10 @@ pub fn unit_kind(escape_kind: EscapeKind) -> CharacterKind
 }
 
 /// The character that the unit after a backslash stands for in classes alone: `b` for a backspace and, with `u`, `-` for itself.
-fn alone_in_class(units: &[CodePoint], unicode: bool) -> Option<u32>
+fn alone_in_class<U: Unit>(units: &Ahead<'_, U>, unicode: bool) -> Option<u32>
     ensures { result ≡ alone_in_class unicode (values units.now) }
 {
-    let value = units.first()?.value;
+    let value = units.first()?;
     if value == 'b' as u32 {
         Some(8)
     } else if value == '-' as u32 && unicode {

@@ -16,7 +16,7 @@ use crate::sets::front::begins_with;
 use rx_ast::{CharacterClass, CharacterClassContents, CharacterClassContentsKind};
 use rx_base::{Counter, Diagnostic, Fault, List, OutOfMemory, Unterminated};
 use rx_scan::{SpanFactory, State};
-use rx_units::Reader;
+use rx_units::{Reader, UnitSource};
 use std::alloc::Global;
 
 /// Reads the class (CharacterClass of ECMA-262, 22.2.1) that stands next, and moves over it. Where no `[` stands the answer is
@@ -33,9 +33,9 @@ use std::alloc::Global;
 /// do not end; by `CharacterClassRangeOutOfOrder`; and by `InvalidCharacterClass` or, where it is nested, by
 /// `CharacterClassContentsInvalidOperands` where a negative class may contain strings.
 // Why: docs/DECISIONS.md, 44.
-pub fn parse_character_class<C: Counter>(
+pub fn parse_character_class<'text, S: UnitSource + 'text, C: Counter>(
     alloc: Global,
-    reader: &mut Reader<'_>,
+    reader: &mut Reader<'text, S>,
     state: &State,
     spans: &SpanFactory,
     steps: &mut C,
@@ -50,8 +50,8 @@ pub fn parse_character_class<C: Counter>(
 
 /// Reads the class that stands next as `parse_character_class` does, and gathers what it holds in a list, whose memory then serves the
 /// next class too. What the list holds before and after does not matter.
-pub fn parse_character_class_with_list<C: Counter>(
-    reader: &mut Reader<'_>,
+pub fn parse_character_class_with_list<'text, S: UnitSource + 'text, C: Counter>(
+    reader: &mut Reader<'text, S>,
     state: &State,
     spans: &SpanFactory,
     contents: &mut List<CharacterClassContents>,
@@ -73,7 +73,7 @@ pub fn parse_character_class_with_list<C: Counter>(
     reading.character_class(contents)
 }
 
-impl<C: Counter> Reading<'_, '_, '_, '_, '_, C> {
+impl<S: UnitSource, C: Counter> Reading<'_, '_, '_, '_, '_, S, C> {
     ghost use Rattle.rx_class.specs.Readings.{ReadsOn};
 
     /// Reads the class that stands next.
@@ -86,7 +86,7 @@ impl<C: Counter> Reading<'_, '_, '_, '_, '_, C> {
         ensures steps { IsReading 6 (C.count self.old.steps.now) (C.count self.new.steps.now) self.old.reader.now self.new.reader.now result }
         ensures on { ReadsOn self.old self.new }
     {
-        if !begins_with(self.units(), '[') {
+        if !begins_with(&self.units(), '[') {
             return Ok(None);
         }
         if is_sets(self.state.mode()) {
@@ -112,7 +112,7 @@ impl<C: Counter> Reading<'_, '_, '_, '_, '_, C> {
         let negative = self.class_opener();
         clear(contents);
         contents.reserve(CONTENTS_RESERVED)?;
-        while !begins_with(self.units(), ']') {
+        while !begins_with(&self.units(), ']') {
             if self.peek().is_none() {
                 let span = self.span_from(start);
                 let what = Unterminated::CharacterClass;

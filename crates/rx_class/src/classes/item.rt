@@ -15,7 +15,7 @@ use crate::classes::atom::{ClassAtom, common_atom_at};
 use crate::reading::Reading;
 use rx_ast::{Character, CharacterClassContents, CharacterClassRange, CharacterKind};
 use rx_base::{Counter, Diagnostic, Fault, List, OutOfMemory, RangeKind, Span};
-use rx_units::{CodePoint, tail};
+use rx_units::{Ahead, Unit, UnitSource};
 use std::alloc::Global;
 
 /// An item of a class, as it is read.
@@ -30,7 +30,7 @@ pub enum ClassItem {
     },
 }
 
-impl<C: Counter> Reading<'_, '_, '_, '_, '_, C> {
+impl<S: UnitSource, C: Counter> Reading<'_, '_, '_, '_, '_, S, C> {
     ghost use Rattle.rx_class.specs.Readings.{ReadsOn};
 
     /// Reads the item that stands next in a class without `v`, moves over it, and adds what it is to the contents.
@@ -63,15 +63,15 @@ impl<C: Counter> Reading<'_, '_, '_, '_, '_, C> {
     {
         let unicode = self.is_unicode();
         let units = self.units();
-        let Some(low) = common_atom_at(units, unicode) else {
+        let Some(low) = common_atom_at(&units, unicode) else {
             return Ok(None);
         };
-        let after = tail(units, low.length);
-        if !is_dashed(after) {
+        let after = units.from(low.length);
+        if !is_dashed(&after) {
             let character = self.take_common(low);
             return Ok(Some(CharacterClassContents::Character(character)));
         }
-        let Some(high) = common_atom_at(tail(after, 1), unicode) else {
+        let Some(high) = common_atom_at(&after.from(1), unicode) else {
             return Ok(None);
         };
         if high.value < low.value {
@@ -96,7 +96,7 @@ impl<C: Counter> Reading<'_, '_, '_, '_, '_, C> {
         ensures on { ReadsOn self.old self.new }
     {
         let low = self.class_atom()?;
-        if !is_dashed(self.units()) {
+        if !is_dashed(&self.units()) {
             return Ok(ClassItem::One(low.into_contents(self.alloc)?));
         }
         let start = self.offset();
@@ -181,11 +181,11 @@ pub fn range_contents(
 }
 
 /// Whether a `-` stands next that may begin the second half of a range: neither `]` nor the end follows it.
-fn is_dashed(units: &[CodePoint]) -> bool
+fn is_dashed<U: Unit>(units: &Ahead<'_, U>) -> bool
     ensures { result ≡ is_dashed (values units.now) }
 {
-    match units {
-        [hyphen, next, ..] => hyphen.value == '-' as u32 && next.value != ']' as u32,
+    match units.items() {
+        [hyphen, next, ..] => hyphen.value() == '-' as u32 && next.value() != ']' as u32,
         _ => false,
     }
 }

@@ -11,7 +11,7 @@ use rx_ast::CharacterKind;
 use rx_base::is_lead_surrogate;
 use rx_scan::four_hex_digits;
 use rx_tables::map_short_escape;
-use rx_units::CodePoint;
+use rx_units::{Ahead, Unit};
 
 /// An escape of a character that is read alike in classes and outside them, whatever groups and names the pattern has.
 #[derive(Clone, Copy, Debug)]
@@ -29,15 +29,15 @@ pub struct CommonEscape {
 ///
 /// It counts no step. The caller that takes the escape counts one for each of its digits.
 #[inline(always)]
-pub fn common_escape_at(units: &[CodePoint], unicode_mode: bool) -> Option<CommonEscape>
+pub fn common_escape_at<U: Unit>(units: &Ahead<'_, U>, unicode_mode: bool) -> Option<CommonEscape>
     ensures { IfSome result (λ it. IsCommonEscape unicode_mode units.now it) }
 {
-    let [first, following @ ..] = units else {
+    let Some((first, following)) = units.split_first() else {
         return None;
     };
-    if first.value == 'u' as u32 {
-        let value = four_hex_digits(following)?;
-        if may_begin_pair(value, &following[4..], unicode_mode) {
+    if first == 'u' as u32 {
+        let value = four_hex_digits(&following)?;
+        if may_begin_pair(value, &following.from(4), unicode_mode) {
             return None;
         }
         return Some(CommonEscape {
@@ -46,9 +46,9 @@ pub fn common_escape_at(units: &[CodePoint], unicode_mode: bool) -> Option<Commo
             length: 5,
         });
     }
-    let value = map_short_escape(first.value)?;
+    let value = map_short_escape(first)?;
     Some(CommonEscape {
-        kind: short_kind(first.value, value),
+        kind: short_kind(first, value),
         value,
         length: 1,
     })
@@ -56,7 +56,7 @@ pub fn common_escape_at(units: &[CodePoint], unicode_mode: bool) -> Option<Commo
 
 /// Whether an escape of this value may be the first of two that are one code point, by the units after it.
 #[inline(always)]
-fn may_begin_pair(value: u32, following: &[CodePoint], unicode_mode: bool) -> bool
+fn may_begin_pair<U: Unit>(value: u32, following: &Ahead<'_, U>, unicode_mode: bool) -> bool
     ensures { result ≡ ((unicode_mode && is_lead value) && starts ascii.backslash (values following.now)) }
 {
     unicode_mode && is_lead_surrogate(value) && begins_with(following, '\\')

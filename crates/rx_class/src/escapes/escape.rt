@@ -19,7 +19,7 @@ use crate::{EscapeFound, any_escape_at, character_escape_at, class_escape_at};
 use rx_ast::{Character, CharacterClassEscape};
 use rx_base::{Counter, Diagnostic, DigitsKind};
 use rx_scan::{Environment, SpanFactory, State};
-use rx_units::{CodePoint, Reader};
+use rx_units::{Ahead, Reader, Unit, UnitSource};
 
 /// Reads the character escape (CharacterEscape of ECMA-262, 22.2.1) after a backslash that was read, and moves over its units. The
 /// character's span, in bytes, begins at `span_start`, before the backslash. Where none stands the answer is `None`, and the
@@ -31,8 +31,8 @@ use rx_units::{CodePoint, Reader};
 /// With `u` or `v` it is refused by `TooLargeNumberDigits` where the digits in braces pass 32 bits: the span is that of the digits
 /// before the one that does. It is refused by `InvalidUnicodeEscapeSequence` where `u` begins no unicode escape: the span is that
 /// of the `u`.
-pub fn parse_character_escape<C: Counter>(
-    reader: &mut Reader<'_>,
+pub fn parse_character_escape<'text, S: UnitSource + 'text, C: Counter>(
+    reader: &mut Reader<'text, S>,
     state: &State,
     spans: &SpanFactory,
     span_start: u32,
@@ -54,7 +54,7 @@ pub fn parse_character_escape<C: Counter>(
     reading.character_escape(span_start)
 }
 
-impl<C: Counter> Reading<'_, '_, '_, '_, '_, C> {
+impl<S: UnitSource, C: Counter> Reading<'_, '_, '_, '_, '_, S, C> {
     ghost use Rattle.rx_class.specs.Readings.{ReadsOn};
 
     /// Reads the character escape after a backslash, in and out of classes.
@@ -67,7 +67,7 @@ impl<C: Counter> Reading<'_, '_, '_, '_, '_, C> {
         ensures steps { IsReading 6 (C.count self.old.steps.now) (C.count self.new.steps.now) self.old.reader.now self.new.reader.now result }
         ensures on { ReadsOn self.old self.new }
     {
-        let found = shared_escape(self.reader.remaining_code_points(), self.state, self.steps);
+        let found = shared_escape(&self.reader.ahead(), self.state, self.steps);
         self.answer(span_start, found)
     }
 
@@ -82,8 +82,8 @@ impl<C: Counter> Reading<'_, '_, '_, '_, '_, C> {
         ensures steps { IsReading 6 (C.count self.old.steps.now) (C.count self.new.steps.now) self.old.reader.now self.new.reader.now result }
         ensures on { ReadsOn self.old self.new }
     {
-        let units = self.reader.remaining_code_points();
-        let found = any_escape_at(units, true, class_environment(self.state), self.steps);
+        let units = self.reader.ahead();
+        let found = any_escape_at(&units, true, class_environment(self.state), self.steps);
         self.answer(span_start, found)
     }
 
@@ -124,7 +124,11 @@ impl<C: Counter> Reading<'_, '_, '_, '_, '_, C> {
 }
 
 /// The escape that units begin with after a backslash, in and out of classes.
-fn shared_escape<C: Counter>(units: &[CodePoint], state: &State, steps: &mut C) -> EscapeFound
+fn shared_escape<U: Unit, C: Counter>(
+    units: &Ahead<'_, U>,
+    state: &State,
+    steps: &mut C,
+) -> EscapeFound
     requires code_points { All (λ unit. unit.value ≤ 0x10FFFF) units.now }
     ensures read { seen_escape result ≡ shared_escape_at (environment_of state.now) (values units.now) }
     ensures within { IsWithin (length units.now) result }
@@ -137,10 +141,10 @@ fn shared_escape<C: Counter>(units: &[CodePoint], state: &State, steps: &mut C) 
     }
 }
 
-fn begins_with_c(units: &[CodePoint]) -> bool
+fn begins_with_c<U: Unit>(units: &Ahead<'_, U>) -> bool
     ensures { result ≡ front_is (λ c. c == ascii.c) (values units.now) }
 {
-    units.first().is_some_and(|unit| unit.value == 'c' as u32)
+    units.first() == Some('c' as u32)
 }
 
 /// Whether escapes are those with `u` or `v`.
@@ -160,8 +164,8 @@ fn class_environment(state: &State) -> Environment
 /// Reads the class escape (CharacterClassEscape of ECMA-262, 22.2.1) after a backslash that was read, if it names no property, and
 /// moves over its unit. Its span, in bytes, begins at `span_start`, before the backslash. Where none stands the answer is
 /// `None`, and the reader stays.
-pub fn parse_character_class_escape<C: Counter>(
-    reader: &mut Reader<'_>,
+pub fn parse_character_class_escape<S: UnitSource, C: Counter>(
+    reader: &mut Reader<'_, S>,
     spans: &SpanFactory,
     span_start: u32,
     steps: &mut C,
@@ -171,7 +175,7 @@ pub fn parse_character_class_escape<C: Counter>(
     ensures gives { GivesClassEscape spans.now span_start reader.old reader.new result }
     ensures steps { IsMove (C.count steps.old) (C.count steps.new) reader.old reader.new }
 {
-    let kind = class_escape_at(reader.remaining_code_points())?;
+    let kind = class_escape_at(&reader.ahead())?;
     reader.advance_counted(steps);
     let span = spans.create(span_start, reader.offset());
     Some(CharacterClassEscape { span, kind })

@@ -20,7 +20,7 @@ use rx_scan::{Environment, UnicodeEscape, decode_counted};
 use rx_tables::{
     is_decimal_digit, is_syntax_character, map_c_ascii_letter, map_control_escape, map_hex_digit,
 };
-use rx_units::CodePoint;
+use rx_units::{Ahead, Unit};
 
 /// What stands after a backslash, in units.
 #[derive(Clone, Copy, Debug)]
@@ -44,8 +44,8 @@ pub enum EscapeFound {
 /// The character escape (CharacterEscape of ECMA-262, 22.2.1) that the units after a backslash begin with in a mode: with neither
 /// `u` nor `v` those of B.1.2 are read too.
 /// `inside` says that it stands in a class.
-pub fn any_escape_at<C: Counter>(
-    units: &[CodePoint],
+pub fn any_escape_at<U: Unit, C: Counter>(
+    units: &Ahead<'_, U>,
     inside: bool,
     environment: Environment,
     steps: &mut C,
@@ -72,8 +72,8 @@ pub fn any_escape_at<C: Counter>(
 /// no escape is an answer too.
 // Why: docs/DECISIONS.md, 23.
 #[tactic(auto, using(crate::proofs::EscapeReading::Bounds::read_within), unfolding(rx_model::specs::Reading::Fronts::escape_at))]
-pub fn character_escape_at<C: Counter>(
-    units: &[CodePoint],
+pub fn character_escape_at<U: Unit, C: Counter>(
+    units: &Ahead<'_, U>,
     unicode_mode: bool,
     steps: &mut C,
 ) -> EscapeFound
@@ -82,17 +82,17 @@ pub fn character_escape_at<C: Counter>(
     ensures steps { Rises (C.count steps.old) (C.count steps.new) 0 (most_looks unicode_mode (length units.now) result) }
     ensures few { Rises (C.count steps.old) (C.count steps.new) 0 (few_looks (length units.now) result) }
 {
-    let [first, rest @ ..] = units else {
+    let Some((first, rest)) = units.split_first() else {
         return EscapeFound::Nothing;
     };
-    let cp = first.value;
+    let cp = first;
     if let Some(value) = map_control_escape(cp) {
         return character(CharacterKind::SingleEscape, value, 1);
     }
     match char::from_u32(cp) {
-        Some('c') => control_letter(rest),
-        Some('0') => null(rest),
-        Some('x') => hexadecimal(rest),
+        Some('c') => control_letter(&rest),
+        Some('0') => null(&rest),
+        Some('x') => hexadecimal(&rest),
         Some('u') => unicode(units, unicode_mode, steps),
         _ if unicode_mode && is_identity_escape(cp) => character(CharacterKind::Identifier, cp, 1),
         _ => EscapeFound::Nothing,
@@ -111,30 +111,30 @@ pub fn character(kind: CharacterKind, value: u32, length: usize) -> EscapeFound
 }
 
 /// `c`, by the units after it.
-fn control_letter(units: &[CodePoint]) -> EscapeFound
+fn control_letter<U: Unit>(units: &Ahead<'_, U>) -> EscapeFound
     ensures { seen_escape result ≡ escape_if CharacterKind.ControlLetter 2 (letter_at (values units.now)) }
 {
-    match units {
-        [letter, ..] => match map_c_ascii_letter(letter.value) {
+    match units.first() {
+        Some(letter) => match map_c_ascii_letter(letter) {
             Some(value) => character(CharacterKind::ControlLetter, value, 2),
             None => EscapeFound::Nothing,
         },
-        [] => EscapeFound::Nothing,
+        None => EscapeFound::Nothing,
     }
 }
 
 /// `0`, by the units after it: a digit there would be of the same number.
-fn null(units: &[CodePoint]) -> EscapeFound
+fn null<U: Unit>(units: &Ahead<'_, U>) -> EscapeFound
     ensures { seen_escape result ≡ (if front_is is_decimal_digit (values units.now) then nothing else escaped CharacterKind.Null 0 1) }
 {
-    match units {
-        [digit, ..] if is_decimal_digit(digit.value) => EscapeFound::Nothing,
+    match units.first() {
+        Some(digit) if is_decimal_digit(digit) => EscapeFound::Nothing,
         _ => character(CharacterKind::Null, 0, 1),
     }
 }
 
 /// `x`, by the units after it.
-fn hexadecimal(units: &[CodePoint]) -> EscapeFound
+fn hexadecimal<U: Unit>(units: &Ahead<'_, U>) -> EscapeFound
     ensures { seen_escape result ≡ escape_if CharacterKind.HexadecimalEscape 3 (two_at (values units.now)) }
 {
     match two_hex_digits(units) {
@@ -143,13 +143,13 @@ fn hexadecimal(units: &[CodePoint]) -> EscapeFound
     }
 }
 
-fn two_hex_digits(units: &[CodePoint]) -> Option<u32>
+fn two_hex_digits<U: Unit>(units: &Ahead<'_, U>) -> Option<u32>
     ensures { result ≡ two_at (values units.now) }
 {
-    match units {
+    match units.items() {
         [a, b, ..] => {
-            let a = map_hex_digit(a.value)?;
-            let b = map_hex_digit(b.value)?;
+            let a = map_hex_digit(a.value())?;
+            let b = map_hex_digit(b.value())?;
             Some(16 * a + b)
         }
         _ => None,
@@ -157,7 +157,11 @@ fn two_hex_digits(units: &[CodePoint]) -> Option<u32>
 }
 
 /// `u`, which the units begin with.
-fn unicode<C: Counter>(units: &[CodePoint], unicode_mode: bool, steps: &mut C) -> EscapeFound
+fn unicode<U: Unit, C: Counter>(
+    units: &Ahead<'_, U>,
+    unicode_mode: bool,
+    steps: &mut C,
+) -> EscapeFound
     ensures read { seen_escape result ≡ unicode_read (decoding_of unicode_mode (values units.now)) }
     ensures steps { Rises (C.count steps.old) (C.count steps.new) 0 (most_looks unicode_mode (length units.now) result) }
     ensures few { Rises (C.count steps.old) (C.count steps.new) 0 (few_looks (length units.now) result) }
@@ -178,10 +182,10 @@ fn is_identity_escape(cp: u32) -> bool
 }
 
 /// The class escape (CharacterClassEscape of ECMA-262, 22.2.1) that the unit after a backslash is, if it names no property.
-pub fn class_escape_at(units: &[CodePoint]) -> Option<CharacterClassEscapeKind>
+pub fn class_escape_at<U: Unit>(units: &Ahead<'_, U>) -> Option<CharacterClassEscapeKind>
     ensures { result ≡ class_escape_front (values units.now) }
 {
-    match char::from_u32(units.first()?.value) {
+    match char::from_u32(units.first()?) {
         Some('d') => Some(CharacterClassEscapeKind::D),
         Some('D') => Some(CharacterClassEscapeKind::NegativeD),
         Some('s') => Some(CharacterClassEscapeKind::S),

@@ -17,14 +17,14 @@ use rx_ast::CharacterKind;
 use rx_base::Counter;
 use rx_scan::{Environment, four_hex_digits};
 use rx_tables::{is_decimal_digit, is_octal_digit, map_c_ascii_letter, map_hex_digit};
-use rx_units::CodePoint;
+use rx_units::{Ahead, Unit};
 
 /// The escape that the units after a backslash begin with, of those that are one with neither `u` nor `v` alone (CharacterEscape and ClassEscape of
 /// ECMA-262, B.1.2).
 /// `inside` says that it stands in a class.
 #[tactic(auto, unfolding(rx_model::specs::Characters::EscapeFronts::legacy_at))]
-pub fn legacy_escape_at<C: Counter>(
-    units: &[CodePoint],
+pub fn legacy_escape_at<U: Unit, C: Counter>(
+    units: &Ahead<'_, U>,
     inside: bool,
     environment: Environment,
     steps: &mut C,
@@ -32,19 +32,19 @@ pub fn legacy_escape_at<C: Counter>(
     ensures read { seen_escape result ≡ legacy_at inside (seen_environment environment) (values units.now) }
     ensures steps { Rises (C.count steps.old) (C.count steps.new) 0 (if inside then 0 else prefix_len (λ u. is_decimal_digit u.value) units.now + 1) }
 {
-    let [first, rest @ ..] = units else {
+    let Some((first, rest)) = units.split_first() else {
         return EscapeFound::Nothing;
     };
-    let cp = first.value;
+    let cp = first;
     if cp == 'c' as u32 {
-        return control(rest, inside);
+        return control(&rest, inside);
     }
     if is_decimal_digit(cp) {
         return digit(units, inside, environment.groups, steps);
     }
     if begins_another(cp, inside, environment.is_named())
-        || is_hexadecimal(cp, rest)
-        || is_unicode(cp, rest)
+        || is_hexadecimal(cp, &rest)
+        || is_unicode(cp, &rest)
     {
         return EscapeFound::Nothing;
     }
@@ -53,17 +53,17 @@ pub fn legacy_escape_at<C: Counter>(
 
 /// `c`, by the units after it: in a class a ClassControlLetter follows; else the backslash stands for itself.
 // Why: docs/DECISIONS.md, 33.
-fn control(units: &[CodePoint], inside: bool) -> EscapeFound
+fn control<U: Unit>(units: &Ahead<'_, U>, inside: bool) -> EscapeFound
     ensures { seen_escape result ≡ control_after inside (values units.now) }
 {
-    let [letter, ..] = units else {
+    let Some(letter) = units.first() else {
         return character(CharacterKind::Symbol, '\\' as u32, 0);
     };
-    if map_c_ascii_letter(letter.value).is_some() {
+    if map_c_ascii_letter(letter).is_some() {
         return EscapeFound::Nothing;
     }
-    if inside && is_class_control(letter.value) {
-        return character(CharacterKind::ControlLetter, letter.value % 32, 2);
+    if inside && is_class_control(letter) {
+        return character(CharacterKind::ControlLetter, letter % 32, 2);
     }
     character(CharacterKind::Symbol, '\\' as u32, 0)
 }
@@ -76,48 +76,52 @@ fn is_class_control(cp: u32) -> bool
 }
 
 /// A digit, which the units begin with: an octal escape or the digit itself, where it begins no reference.
-fn digit<C: Counter>(units: &[CodePoint], inside: bool, groups: u32, steps: &mut C) -> EscapeFound
+fn digit<U: Unit, C: Counter>(
+    units: &Ahead<'_, U>,
+    inside: bool,
+    groups: u32,
+    steps: &mut C,
+) -> EscapeFound
     ensures read { (c : ℕ) (w : List ℕ) → values units.now ≡ c ∷ w → seen_escape result ≡ digit_at inside groups c w }
     ensures steps { Rises (C.count steps.old) (C.count steps.new) 0 (if inside then 0 else prefix_len (λ u. is_decimal_digit u.value) units.now + 1) }
 {
-    let [first, rest @ ..] = units else {
+    let Some((first, rest)) = units.split_first() else {
         return EscapeFound::Nothing;
     };
     if !inside && refers(units, groups, steps) {
         return EscapeFound::Nothing;
     }
-    if first.value == '0' as u32 && !begins_with_digit(rest) {
+    if first == '0' as u32 && !begins_with_digit(&rest) {
         return EscapeFound::Nothing;
     }
-    if is_octal_digit(first.value) {
-        return octal_escape(first.value, rest);
+    if is_octal_digit(first) {
+        return octal_escape(first, &rest);
     }
-    character(CharacterKind::Identifier, first.value, 1)
+    character(CharacterKind::Identifier, first, 1)
 }
 
-fn begins_with_digit(units: &[CodePoint]) -> bool
+fn begins_with_digit<U: Unit>(units: &Ahead<'_, U>) -> bool
     ensures { result ≡ front_is is_decimal_digit (values units.now) }
 {
-    units
-        .first()
-        .is_some_and(|unit| is_decimal_digit(unit.value))
+    matches!(units.first(), Some(digit) if is_decimal_digit(digit))
 }
 
 /// LegacyOctalEscapeSequence, by its first digit and the units after it.
-fn octal_escape(first: u32, rest: &[CodePoint]) -> EscapeFound
+fn octal_escape<U: Unit>(first: u32, rest: &Ahead<'_, U>) -> EscapeFound
     requires { is_octal_digit first ≡ true }
     ensures { seen_escape result ≡ octal_at first (values rest.now) }
 {
     let value = octal(first);
-    match rest {
+    match rest.items() {
         [second, third, ..]
-            if first <= '3' as u32 && is_octal_digit(second.value) && is_octal_digit(third.value) =>
-            {
-                let value = 64 * value + 8 * octal(second.value) + octal(third.value);
-                character(CharacterKind::Octal3, value, 3)
-            }
-        [second, ..] if is_octal_digit(second.value) => {
-            character(CharacterKind::Octal2, 8 * value + octal(second.value), 2)
+            if first <= '3' as u32
+                && is_octal_digit(second.value())
+                && is_octal_digit(third.value()) => {
+            let value = 64 * value + 8 * octal(second.value()) + octal(third.value());
+            character(CharacterKind::Octal3, value, 3)
+        }
+        [second, ..] if is_octal_digit(second.value()) => {
+            character(CharacterKind::Octal2, 8 * value + octal(second.value()), 2)
         }
         _ => character(CharacterKind::Octal1, value, 1),
     }
@@ -132,30 +136,32 @@ fn octal(digit: u32) -> u32
 }
 
 /// Whether the units begin with a decimal number that does not begin with 0 and is at most that of the groups (DecimalEscape of ECMA-262, 22.2.1).
-fn refers<C: Counter>(units: &[CodePoint], groups: u32, steps: &mut C) -> bool
+fn refers<U: Unit, C: Counter>(units: &Ahead<'_, U>, groups: u32, steps: &mut C) -> bool
     ensures value { result ≡ refers groups (values units.now) }
     ensures steps { Rises (C.count steps.old) (C.count steps.new) 0 (prefix_len (λ u. is_decimal_digit u.value) units.now + 1) }
 {
-    let [first, ..] = units else {
+    let Some(first) = units.first() else {
         return false;
     };
-    is_decimal_digit(first.value) && first.value != '0' as u32 && is_at_most(units, groups, steps)
+    is_decimal_digit(first) && first != '0' as u32 && is_at_most(units, groups, steps)
 }
 
 /// Whether the number of the decimal digits that the units begin with is at most a limit.
-#[tactic(auto, using(crate::proofs::EscapeReading::LegacyLooks::passes_limit))]
-fn is_at_most<C: Counter>(units: &[CodePoint], limit: u32, steps: &mut C) -> bool
+#[tactic(auto, using(crate::proofs::EscapeReading::LegacyLooks::number_grows, crate::proofs::EscapeReading::LegacyLooks::digit_run))]
+fn is_at_most<U: Unit, C: Counter>(units: &Ahead<'_, U>, limit: u32, steps: &mut C) -> bool
     ensures value { result ≡ nat_le (run_number 0 (values units.now)) limit }
     ensures steps { Rises (C.count steps.old) (C.count steps.new) 0 (prefix_len (λ u. is_decimal_digit u.value) units.now + 1) }
     ensures all { IsTrue result → C.count steps.old + prefix_len (λ u. is_decimal_digit u.value) units.now ≤ C.count steps.new }
 {
     let mut number = 0u64;
-    for unit in units {
+    let items = units.items();
+    for unit in items {
         steps.tick();
-        if !is_decimal_digit(unit.value) {
+        let value = unit.value();
+        if !is_decimal_digit(value) {
             return true;
         }
-        number = 10 * number + (unit.value - '0' as u32) as u64;
+        number = 10 * number + (value - '0' as u32) as u64;
         if number > limit as u64 {
             return false;
         }
@@ -180,23 +186,23 @@ fn is_lettered(cp: u32) -> bool
 }
 
 /// Whether this is the `x` of a HexEscapeSequence, by the units after it.
-fn is_hexadecimal(cp: u32, rest: &[CodePoint]) -> bool
+fn is_hexadecimal<U: Unit>(cp: u32, rest: &Ahead<'_, U>) -> bool
     ensures { result ≡ (cp == ascii.x && is_some (two_next (values rest.now))) }
 {
     cp == 'x' as u32 && begin_with_two_hex_digits(rest)
 }
 
-fn begin_with_two_hex_digits(units: &[CodePoint]) -> bool
+fn begin_with_two_hex_digits<U: Unit>(units: &Ahead<'_, U>) -> bool
     ensures { result ≡ is_some (two_next (values units.now)) }
 {
-    match units {
-        [a, b, ..] => are_hex_digits(a.value, b.value),
+    match units.items() {
+        [a, b, ..] => are_hex_digits(a.value(), b.value()),
         _ => false,
     }
 }
 
 /// Whether this is the `u` of a RegExpUnicodeEscapeSequence of four digits, by the units after it.
-fn is_unicode(cp: u32, rest: &[CodePoint]) -> bool
+fn is_unicode<U: Unit>(cp: u32, rest: &Ahead<'_, U>) -> bool
     ensures { result ≡ (cp == ascii.u && is_some (four_next (values rest.now))) }
 {
     cp == 'u' as u32 && four_hex_digits(rest).is_some()

@@ -19,7 +19,7 @@ use rx_tables::{
     is_general_category_value, is_valid_lone_unicode_property,
     is_valid_lone_unicode_property_of_strings, is_valid_unicode_property,
 };
-use rx_units::CodePoint;
+use rx_units::{Ahead, Unit};
 use std::alloc::Global;
 
 /// What stands after a backslash where a property escape may stand, in units.
@@ -67,9 +67,9 @@ pub enum Lone {
 }
 
 /// The property escape (CharacterClassEscape of ECMA-262, 22.2.1) that the units after a backslash begin with, in a unicode mode.
-pub fn property_at<C: Counter>(
+pub fn property_at<U: Unit, C: Counter>(
     alloc: Global,
-    units: &[CodePoint],
+    units: &Ahead<'_, U>,
     mode: Mode,
     steps: &mut C,
 ) -> Result<PropertyFound, OutOfMemory>
@@ -78,19 +78,19 @@ pub fn property_at<C: Counter>(
     ensures steps { Rises (C.count steps.old) (C.count steps.new) 0 (property_looks (length units.now) result) }
 {
     if let Some(following) = after(units, 'p') {
-        return expression_at(alloc, false, following, mode, steps);
+        return expression_at(alloc, false, &following, mode, steps);
     }
     if let Some(following) = after(units, 'P') {
-        return expression_at(alloc, true, following, mode, steps);
+        return expression_at(alloc, true, &following, mode, steps);
     }
     Ok(PropertyFound::Nothing)
 }
 
 /// The same by the units after `p` or `P`.
-fn expression_at<C: Counter>(
+fn expression_at<U: Unit, C: Counter>(
     alloc: Global,
     negative: bool,
-    units: &[CodePoint],
+    units: &Ahead<'_, U>,
     mode: Mode,
     steps: &mut C,
 ) -> Result<PropertyFound, OutOfMemory>
@@ -101,10 +101,10 @@ fn expression_at<C: Counter>(
     let Some(following) = after(units, '{') else {
         return Ok(unterminated(1));
     };
-    match pair_at(following, steps) {
+    match pair_at(&following, steps) {
         Some(pair) => pair_found(alloc, negative, pair, steps),
         None => {
-            let run = run_at(following, steps);
+            let run = run_at(&following, steps);
             run_found(alloc, negative, run, mode, steps)
         }
     }
@@ -118,27 +118,27 @@ fn unterminated(end: usize) -> PropertyFound
 
 /// The same by a name and a value, in every mode.
 #[tactic(auto, using(rx_model::proofs::Properties::PropertyRefusals::names_are_values))]
-fn pair_found<C: Counter>(
+fn pair_found<U: Unit, C: Counter>(
     alloc: Global,
     negative: bool,
-    pair: Pair<'_>,
+    pair: Pair<'_, U>,
     steps: &mut C,
 ) -> Result<PropertyFound, OutOfMemory>
-    requires { (w : List ℕ) × HasPair w (values pair.name.now) (values pair.value.now) (values pair.following.now) }
-    ensures found { IfOk result (λ found. (mode : Mode) (w : List ℕ) → is_unicode mode ≡ true → HasPair w (values pair.entry.name.now) (values pair.entry.value.now) (values pair.entry.following.now)
+    requires { (w : List ℕ) × HasPair w (values pair.name) (values pair.value) (values pair.following) }
+    ensures found { IfOk result (λ found. (mode : Mode) (w : List ℕ) → is_unicode mode ≡ true → HasPair w (values pair.entry.name) (values pair.entry.value) (values pair.entry.following)
         → IsFoundIn mode (property_letter negative ∷ ascii.left_brace ∷ w) found) }
-    ensures steps { Rises (C.count steps.old) (C.count steps.new) 0 (length pair.entry.name.now + length pair.entry.value.now) }
-    ensures closed { IfOk result (IsClosedIn (4 + length pair.entry.name.now + length pair.entry.value.now) (values pair.entry.following.now)) }
+    ensures steps { Rises (C.count steps.old) (C.count steps.new) 0 (length pair.entry.name + length pair.entry.value) }
+    ensures closed { IfOk result (IsClosedIn (4 + length pair.entry.name + length pair.entry.value) (values pair.entry.following)) }
 {
-    let name_text = text_of(alloc, pair.name, steps)?;
-    let value_text = text_of(alloc, pair.value, steps)?;
+    let name_text = text_of(alloc, &pair.name, steps)?;
+    let value_text = text_of(alloc, &pair.value, steps)?;
     if !is_valid_unicode_property(name_text.as_str(), value_text.as_str()) {
         return Ok(PropertyFound::Halt(PropertyHalt::Name {
             start: 3 + pair.name.len(),
             length: pair.value.len(),
         }));
     }
-    if !is_closed(pair.following) {
+    if !is_closed(&pair.following) {
         return Ok(unterminated(3 + pair.name.len() + pair.value.len()));
     }
     Ok(PropertyFound::Property {
@@ -151,29 +151,29 @@ fn pair_found<C: Counter>(
 }
 
 /// The same by a run of a value's characters.
-fn run_found<C: Counter>(
+fn run_found<U: Unit, C: Counter>(
     alloc: Global,
     negative: bool,
-    run: Run<'_>,
+    run: Run<'_, U>,
     mode: Mode,
     steps: &mut C,
 ) -> Result<PropertyFound, OutOfMemory>
     requires unicode { is_unicode mode ≡ true }
-    requires run { (w : List ℕ) × HasRun w (values run.units.now) (values run.following.now) }
-    ensures found { IfOk result (λ found. (w : List ℕ) → HasRun w (values run.entry.units.now) (values run.entry.following.now)
+    requires run { (w : List ℕ) × HasRun w (values run.units) (values run.following) }
+    ensures found { IfOk result (λ found. (w : List ℕ) → HasRun w (values run.entry.units) (values run.entry.following)
         → IsFoundIn mode (property_letter negative ∷ ascii.left_brace ∷ w) found) }
-    ensures steps { Rises (C.count steps.old) (C.count steps.new) 0 (length run.entry.units.now) }
-    ensures closed { IfOk result (IsClosedIn (3 + length run.entry.units.now) (values run.entry.following.now)) }
+    ensures steps { Rises (C.count steps.old) (C.count steps.new) 0 (length run.entry.units) }
+    ensures closed { IfOk result (IsClosedIn (3 + length run.entry.units) (values run.entry.following)) }
 {
     if run.units.is_empty() || run.following.is_empty() {
         return Ok(unterminated(2 + run.units.len()));
     }
-    let word = text_of(alloc, run.units, steps)?;
+    let word = text_of(alloc, &run.units, steps)?;
     let lone = lone_word(word.as_str());
     if !is_known(lone, mode) {
         return Ok(PropertyFound::Halt(unknown(lone, word, run.units.len())));
     }
-    if !is_closed(run.following) {
+    if !is_closed(&run.following) {
         return Ok(unterminated(2 + run.units.len()));
     }
     known_found(alloc, negative, lone, word, run.units.len())
@@ -261,17 +261,17 @@ fn lone_word(word: &str) -> Lone
     }
 }
 
-fn is_closed(units: &[CodePoint]) -> bool
+fn is_closed<U: Unit>(units: &Ahead<'_, U>) -> bool
     ensures { result ≡ starts ascii.right_brace (values units.now) }
 {
-    units.first().is_some_and(|unit| unit.value == '}' as u32)
+    units.first() == Some('}' as u32)
 }
 
 /// The characters that some units are.
 #[tactic(auto, using(crate::proofs::PropertyReading::Tables::small_value))]
-fn text_of<C: Counter>(
+fn text_of<U: Unit, C: Counter>(
     alloc: Global,
-    units: &[CodePoint],
+    units: &Ahead<'_, U>,
     steps: &mut C,
 ) -> Result<Text, OutOfMemory>
     requires { list_all is_unicode_property_value_character (values units.now) ≡ true }
@@ -280,10 +280,11 @@ fn text_of<C: Counter>(
     ensures whole { IfOk result (λ text. C.count steps.new ≡ C.count steps.old + length units.now) }
 {
     let mut text = Text::from_str(alloc, "")?;
+    let items = units.items();
     let mut place = 0;
-    while place < units.len() {
+    while place < items.len() {
         steps.tick();
-        match char::from_u32(units[place].value) {
+        match char::from_u32(items[place].value()) {
             Some(character) => text.push(character)?,
             None => unreachable!(),
         }

@@ -12,7 +12,7 @@ use crate::reading::Reading;
 use rx_ast::UnicodePropertyEscape;
 use rx_base::{Counter, Diagnostic, Fault, PropertyPart, Unterminated};
 use rx_scan::{SpanFactory, State};
-use rx_units::Reader;
+use rx_units::{Reader, UnitSource};
 use std::alloc::Global;
 
 /// Reads the property escape (CharacterClassEscape of ECMA-262, 22.2.1, that names a property) after a backslash that was read, and
@@ -23,9 +23,9 @@ use std::alloc::Global;
 /// `InvalidUnicodeProperty` where a name, a value or both together are in no table; where a property of strings is named, by
 /// `InvalidUnicodePropertyOfStrings` with `u`, and with `v` by `InvalidUnicodePropertyNameNegativeStrings` after `\P`.
 #[inline]
-pub fn parse_character_class_escape_unicode<C: Counter>(
+pub fn parse_character_class_escape_unicode<'text, S: UnitSource + 'text, C: Counter>(
     alloc: Global,
-    reader: &mut Reader<'_>,
+    reader: &mut Reader<'text, S>,
     state: &State,
     spans: &SpanFactory,
     span_start: u32,
@@ -46,7 +46,7 @@ pub fn parse_character_class_escape_unicode<C: Counter>(
     reading.property_escape(span_start)
 }
 
-impl<C: Counter> Reading<'_, '_, '_, '_, '_, C> {
+impl<S: UnitSource, C: Counter> Reading<'_, '_, '_, '_, '_, S, C> {
     ghost use Rattle.rx_class.specs.Readings.{ReadsOn};
 
     /// Reads the property escape after a backslash.
@@ -62,8 +62,8 @@ impl<C: Counter> Reading<'_, '_, '_, '_, '_, C> {
         if !self.is_unicode() {
             return Ok(None);
         }
-        let units = self.reader.remaining_code_points();
-        let found = property_at(self.alloc, units, self.state.mode(), self.steps)?;
+        let units = self.reader.ahead();
+        let found = property_at(self.alloc, &units, self.state.mode(), self.steps)?;
         match found {
             PropertyFound::Property {
                 negative,

@@ -15,6 +15,7 @@ ghost use Rattle.rx_class.specs.SetReading.Steps.{TakesStepsAfter, most_after_ba
 use crate::classes::atom::unit_kind;
 use crate::escapes::found::character;
 use crate::reading::Reading;
+use crate::sets::front::begins_with;
 use crate::{EscapeFound, character_escape_at, common_escape_at};
 use rx_ast::{Character, CharacterKind};
 use rx_base::{Counter, Diagnostic, DigitsKind};
@@ -22,7 +23,7 @@ use rx_tables::{
     is_class_set_reserved_double_punctuator, is_class_set_reserved_punctuator,
     is_class_set_syntax_character,
 };
-use rx_units::CodePoint;
+use rx_units::{Ahead, Unit, UnitSource};
 
 /// What stands where a character of a class stands with `v` (ClassSetCharacter of ECMA-262, 22.2.1): one, or an escape of one that is
 /// refused. Lengths count from the backslash on.
@@ -43,7 +44,7 @@ pub enum SetCharacter {
     Invalid,
 }
 
-impl<C: Counter> Reading<'_, '_, '_, '_, '_, C> {
+impl<S: UnitSource, C: Counter> Reading<'_, '_, '_, '_, '_, S, C> {
     ghost use Rattle.rx_class.specs.Readings.{ReadsOn};
 
     /// Reads the character that was found at the place, and moves over it.
@@ -82,32 +83,40 @@ impl<C: Counter> Reading<'_, '_, '_, '_, '_, C> {
 }
 
 /// The character that the units begin with, with its backslash.
-#[tactic(auto, unfolding(crate::specs::SetReading::Fronts::set_character_at))]
-pub fn set_character_at<C: Counter>(units: &[CodePoint], steps: &mut C) -> Option<SetCharacter>
+#[tactic(auto, using(crate::proofs::SetReading::Characters::set_character_is, crate::proofs::SetReading::Characters::nothing_read))]
+pub fn set_character_at<U: Unit, C: Counter>(
+    units: &Ahead<'_, U>,
+    steps: &mut C,
+) -> Option<SetCharacter>
     ensures read { seen_if_some result ≡ set_character_at units.now }
     ensures steps { Rises (C.count steps.old) (C.count steps.new) 0 (most_set_looks units.now (seen_if_some result)) }
 {
-    let [first, following @ ..] = units else {
+    let Some((first, following)) = units.split_first() else {
         return None;
     };
-    if first.value == '\\' as u32 {
-        return after_backslash(following, steps);
+    if first == '\\' as u32 {
+        return after_backslash(&following, steps);
     }
-    if !stands_raw(first.value, following) {
+    if !stands_raw(first, &following) {
         return None;
     }
     Some(SetCharacter::Character {
-        kind: unit_kind(first.escape_kind),
-        value: first.value,
+        kind: unit_kind(units.escape_kind()),
+        value: first,
         length: 1,
     })
 }
 
 /// The character that the units after a backslash stand for in a class, from the backslash on.
-pub fn after_backslash<C: Counter>(units: &[CodePoint], steps: &mut C) -> Option<SetCharacter>
+pub fn after_backslash<U: Unit, C: Counter>(
+    units: &Ahead<'_, U>,
+    steps: &mut C,
+) -> Option<SetCharacter>
     ensures read { seen_if_some result ≡ after_backslash (set_escape_at (values units.now)) }
     ensures steps { Rises (C.count steps.old) (C.count steps.new) 0 (most_after_backslash (length units.now) (seen_if_some result)) }
 {
+    // Why: docs/DECISIONS.md, 131.
+    let _ = units.len();
     match set_escape_at(units, steps) {
         EscapeFound::Character {
             kind,
@@ -125,7 +134,7 @@ pub fn after_backslash<C: Counter>(units: &[CodePoint], steps: &mut C) -> Option
 }
 
 /// The same without the backslash.
-fn set_escape_at<C: Counter>(units: &[CodePoint], steps: &mut C) -> EscapeFound
+fn set_escape_at<U: Unit, C: Counter>(units: &Ahead<'_, U>, steps: &mut C) -> EscapeFound
     ensures read { seen_escape result ≡ set_escape_at (values units.now) }
     ensures within { IsWithin (length units.now) result }
     ensures steps { Rises (C.count steps.old) (C.count steps.new) 0 (most_looks true (length units.now) result) }
@@ -134,14 +143,14 @@ fn set_escape_at<C: Counter>(units: &[CodePoint], steps: &mut C) -> EscapeFound
         steps.add(it.length - 1);
         return character(it.kind, it.value, it.length);
     }
-    let [first, ..] = units else {
+    let Some(first) = units.first() else {
         return EscapeFound::Nothing;
     };
-    if first.value == 'b' as u32 {
+    if first == 'b' as u32 {
         return character(CharacterKind::SingleEscape, 8, 1);
     }
-    if is_class_set_reserved_punctuator(first.value) {
-        return character(CharacterKind::Identifier, first.value, 1);
+    if is_class_set_reserved_punctuator(first) {
+        return character(CharacterKind::Identifier, first, 1);
     }
     character_escape_at(units, true, steps)
 }
@@ -149,24 +158,26 @@ fn set_escape_at<C: Counter>(units: &[CodePoint], steps: &mut C) -> EscapeFound
 /// Whether a value stands for itself before some units: it is no ClassSetSyntaxCharacter, and begins no
 /// ClassSetReservedDoublePunctuator.
 #[inline(always)]
-pub(crate) fn stands_raw(value: u32, following: &[CodePoint]) -> bool
+pub(crate) fn stands_raw<U: Unit>(value: u32, following: &Ahead<'_, U>) -> bool
     ensures { result ≡ stands_raw_in_class Sets value (values following.now) }
 {
     !is_class_set_syntax_character(value)
         && !following.first().is_some_and(|next| is_class_set_reserved_double_punctuator(
-            value, next.value,
+            value, next,
         ))
 }
 
 /// What stands after a character as the end of a range: a `-` and a character. Lengths count from after the `-` on.
-pub fn range_end_at<C: Counter>(units: &[CodePoint], steps: &mut C) -> Option<SetCharacter>
+#[tactic(auto, using(crate::proofs::SetReading::Characters::range_end_after, crate::proofs::SetReading::Characters::no_end_without, crate::proofs::SetReading::Fronts::starts_some))]
+pub fn range_end_at<U: Unit, C: Counter>(
+    units: &Ahead<'_, U>,
+    steps: &mut C,
+) -> Option<SetCharacter>
     ensures end { seen_if_some result ≡ range_end_at units.now }
     ensures steps { Rises (C.count steps.old) (C.count steps.new) 0 (most_end_looks units.now (seen_if_some result)) }
 {
-    match units {
-        [hyphen, following @ ..] if hyphen.value == '-' as u32 => set_character_at(
-            following, steps,
-        ),
-        _ => None,
+    if !begins_with(units, '-') {
+        return None;
     }
+    set_character_at(&units.from(1), steps)
 }

@@ -15,8 +15,9 @@ use crate::sets::front::{begins_with, set_front_at};
 use crate::sets::turn::{Turn, next_turn};
 use rx_ast::CharacterClass;
 use rx_base::{Counter, Fault, SetOperator};
+use rx_units::UnitSource;
 
-impl<C: Counter> Reading<'_, '_, '_, '_, '_, C> {
+impl<S: UnitSource, C: Counter> Reading<'_, '_, '_, '_, '_, S, C> {
     ghost use Rattle.rx_class.specs.Readings.{ReadsOn};
 
     /// Reads the class with `v` (CharacterClass and ClassSetExpression of ECMA-262, 22.2.1) whose `[` is at the place, and moves
@@ -46,7 +47,7 @@ impl<C: Counter> Reading<'_, '_, '_, '_, '_, C> {
     fn set_class_ends(&self, builder: &ClassBuilder) -> bool
         ensures { IsTrue result ↔ EndsSets self.now.reader.now builder.now }
     {
-        begins_with(self.units(), ']') && builder.is_outermost() && builder.inner.held.is_whole()
+        begins_with(&self.units(), ']') && builder.is_outermost() && builder.inner.held.is_whole()
     }
 
     /// Reads what is at the place in the innermost open bracket, but for the class's own `]`.
@@ -60,10 +61,10 @@ impl<C: Counter> Reading<'_, '_, '_, '_, '_, C> {
         ensures on { ReadsOn self.old self.new }
     {
         let held = builder.inner.held;
-        if held.is_pending(SetOperator::Intersection) && begins_with(self.units(), '&') {
+        if held.is_pending(SetOperator::Intersection) && begins_with(&self.units(), '&') {
             return Err(self.third_ampersand(builder));
         }
-        let front = set_front_at(self.reader.remaining_code_points(), self.steps);
+        let front = set_front_at(&self.reader.ahead(), self.steps);
         match next_turn(front, held) {
             Turn::Close => self.close_bracket(builder),
             Turn::Operator { operator, after } => {

@@ -20,9 +20,9 @@ use crate::sets::character::stands_raw;
 use crate::sets::front::begins_with;
 use rx_ast::{Character, CharacterClassRange};
 use rx_base::{Counter, OutOfMemory, Span};
-use rx_units::{CodePoint, tail};
+use rx_units::{Ahead, Unit, UnitSource};
 
-impl<C: Counter> Reading<'_, '_, '_, '_, '_, C> {
+impl<S: UnitSource, C: Counter> Reading<'_, '_, '_, '_, '_, S, C> {
     ghost use Rattle.rx_class.specs.Readings.{ReadsOn};
 
     /// Reads what is at the place in the innermost bracket where that bracket holds no operator, and what is there is common: a bracket that
@@ -66,7 +66,7 @@ impl<C: Counter> Reading<'_, '_, '_, '_, '_, C> {
         ensures steps { TakesSteps 6 (C.count self.old.steps.now) (C.count self.new.steps.now) self.old.reader.now self.new.reader.now result }
         ensures on { ReadsOn self.old self.new }
     {
-        let negative = begins_with(tail(self.units(), 1), '^');
+        let negative = begins_with(&self.units().from(1), '^');
         self.open_bracket(builder, negative)?;
         Ok(true)
     }
@@ -105,16 +105,16 @@ impl<C: Counter> Reading<'_, '_, '_, '_, '_, C> {
         ensures on { ReadsOn self.old self.new }
     {
         let units = self.units();
-        let Some(low) = common_character_at(units) else {
+        let Some(low) = common_character_at(&units) else {
             return Ok(false);
         };
-        let following = tail(units, low.length);
-        if !begins_with(following, '-') {
+        let following = units.from(low.length);
+        if !begins_with(&following, '-') {
             let character = self.take_character(low);
             builder.inner.add_character(character)?;
             return Ok(true);
         }
-        let Some(high) = common_character_at(tail(following, 1)) else {
+        let Some(high) = common_character_at(&following.from(1)) else {
             return Ok(false);
         };
         if high.value < low.value {
@@ -176,28 +176,30 @@ impl<C: Counter> Reading<'_, '_, '_, '_, '_, C> {
 
 /// The character that the units begin with in a class with `v`, where it is a unit that stands for itself or a common escape. `None` does
 /// not mean that none stands there.
-#[tactic(auto, unfolding(crate::specs::SetReading::Fronts::set_character_at))]
+#[tactic(auto, using(crate::proofs::SetReading::Characters::set_character_is))]
 #[inline(always)]
-fn common_character_at(units: &[CodePoint]) -> Option<CommonAtom>
+fn common_character_at<U: Unit>(units: &Ahead<'_, U>) -> Option<CommonAtom>
     ensures { IfSome result (λ it. set_character_at units.now ≡ escaped it.kind it.value it.length) }
 {
-    let [first, following @ ..] = units else {
+    let Some((first, following)) = units.split_first() else {
         return None;
     };
-    if first.value == '\\' as u32 {
-        let escape = common_escape_at(following, true)?;
+    if first == '\\' as u32 {
+        // Why: docs/DECISIONS.md, 131.
+        let _ = following.len();
+        let escape = common_escape_at(&following, true)?;
         return Some(CommonAtom {
             kind: escape.kind,
             value: escape.value,
             length: escape.length + 1,
         });
     }
-    if !stands_raw(first.value, following) {
+    if !stands_raw(first, &following) {
         return None;
     }
     Some(CommonAtom {
-        kind: unit_kind(first.escape_kind),
-        value: first.value,
+        kind: unit_kind(units.escape_kind()),
+        value: first,
         length: 1,
     })
 }

@@ -12,7 +12,7 @@ use crate::class_escape_at;
 use crate::sets::character::{SetCharacter, after_backslash, set_character_at};
 use rx_ast::CharacterClassEscapeKind;
 use rx_base::{Counter, SetOperator};
-use rx_units::CodePoint;
+use rx_units::{Ahead, Unit};
 
 /// What stands where an operand of a class may stand with `v` (ClassSetExpression of ECMA-262, 22.2.1).
 #[derive(Clone, Copy, Debug)]
@@ -33,28 +33,28 @@ pub enum SetFront {
 }
 
 /// What the units begin with.
-#[tactic(auto, unfolding(crate::specs::SetReading::Fronts::set_front_at))]
-pub fn set_front_at<C: Counter>(units: &[CodePoint], steps: &mut C) -> SetFront
+#[tactic(auto, using(std::proofs::lemmas::List::nil_from_length, crate::proofs::SetReading::Fronts::next_is), unfolding(crate::specs::SetReading::Fronts::set_front_at))]
+pub fn set_front_at<U: Unit, C: Counter>(units: &Ahead<'_, U>, steps: &mut C) -> SetFront
     ensures front { seen_front result ≡ set_front_at units.now }
     ensures steps { Rises (C.count steps.old) (C.count steps.new) 0 (most_front_looks units.now (seen_front result)) }
 {
-    let [first, following @ ..] = units else {
+    let Some((first, following)) = units.split_first() else {
         return SetFront::Nothing;
     };
-    match char::from_u32(first.value) {
+    match char::from_u32(first) {
         Some(']') => SetFront::Closer,
         Some('[') => SetFront::Bracket {
-            negative: begins_with(following, '^'),
+            negative: begins_with(&following, '^'),
         },
-        Some('&') if begins_with(following, '&') => SetFront::Operator(SetOperator::Intersection),
-        Some('-') if begins_with(following, '-') => SetFront::Operator(SetOperator::Subtraction),
-        Some('\\') => escaped_front(following, steps),
+        Some('&') if begins_with(&following, '&') => SetFront::Operator(SetOperator::Intersection),
+        Some('-') if begins_with(&following, '-') => SetFront::Operator(SetOperator::Subtraction),
+        Some('\\') => escaped_front(&following, steps),
         _ => character_front(set_character_at(units, steps)),
     }
 }
 
 /// What stands after a backslash.
-fn escaped_front<C: Counter>(units: &[CodePoint], steps: &mut C) -> SetFront
+fn escaped_front<U: Unit, C: Counter>(units: &Ahead<'_, U>, steps: &mut C) -> SetFront
     ensures front { seen_front result ≡ escaped_front (values units.now) }
     ensures steps { Rises (C.count steps.old) (C.count steps.new) 0 (most_front_after (length units.now) (seen_front result)) }
 {
@@ -80,18 +80,18 @@ fn character_front(found: Option<SetCharacter>) -> SetFront
 }
 
 /// Whether `q{` stands after a backslash.
-fn begins_strings(units: &[CodePoint]) -> bool
+fn begins_strings<U: Unit>(units: &Ahead<'_, U>) -> bool
     ensures { result ≡ are_next ascii.q ascii.left_brace (values units.now) }
 {
-    match units {
-        [letter, brace, ..] => letter.value == 'q' as u32 && brace.value == '{' as u32,
+    match units.items() {
+        [letter, brace, ..] => letter.value() == 'q' as u32 && brace.value() == '{' as u32,
         _ => false,
     }
 }
 
 /// Whether the units begin with a character.
-pub fn begins_with(units: &[CodePoint], ch: char) -> bool
+pub fn begins_with<U: Unit>(units: &Ahead<'_, U>, ch: char) -> bool
     ensures { result ≡ starts ch (values units.now) }
 {
-    units.first().is_some_and(|unit| unit.value == ch as u32)
+    units.first() == Some(ch as u32)
 }

@@ -32,10 +32,10 @@ use rx_ast::{
     CharacterClassRange, ClassStringDisjunction,
 };
 use rx_base::{Counter, Diagnostic, Fault, OutOfMemory, RangeKind, Span};
-use rx_units::CodePoint;
+use rx_units::{Ahead, Unit, UnitSource};
 use std::alloc::Global;
 
-impl<C: Counter> Reading<'_, '_, '_, '_, '_, C> {
+impl<S: UnitSource, C: Counter> Reading<'_, '_, '_, '_, '_, S, C> {
     ghost use Rattle.rx_class.specs.Readings.{ReadsOn};
 
     /// Reads the class strings at the place as an operand. After it the innermost bracket holds `after`.
@@ -119,8 +119,8 @@ impl<C: Counter> Reading<'_, '_, '_, '_, '_, C> {
         ensures on { ReadsOn self.old self.new }
     {
         let low = self.class_set_character(found)?;
-        let units = self.reader.remaining_code_points();
-        match range_next(builder.inner.held, units, self.steps) {
+        let units = self.reader.ahead();
+        match range_next(builder.inner.held, &units, self.steps) {
             Some((end, ranged)) => {
                 self.advance();
                 self.range_operand(builder, low, end, ranged)
@@ -165,9 +165,9 @@ fn strings_contents(
 
 /// What was found as the end of a range after a character, and what a bracket that held this holds after the range; nothing where the
 /// character begins no range.
-fn range_next<C: Counter>(
+fn range_next<U: Unit, C: Counter>(
     held: Held,
-    units: &[CodePoint],
+    units: &Ahead<'_, U>,
     steps: &mut C,
 ) -> Option<(SetCharacter, Held)>
     ensures next { IsRangeNext units.now (mirror_held held) result }

@@ -14,8 +14,9 @@ use crate::reading::Reading;
 use crate::sets::builder::ClassBuilder;
 use crate::sets::held::Held;
 use rx_base::{Counter, Fault, OutOfMemory, SetOperator};
+use rx_units::UnitSource;
 
-impl<C: Counter> Reading<'_, '_, '_, '_, '_, C> {
+impl<S: UnitSource, C: Counter> Reading<'_, '_, '_, '_, '_, S, C> {
     ghost use Rattle.rx_class.specs.Readings.{ReadsOn};
 
     /// Reads the operator at the place. After it the innermost bracket holds `after`.

@@ -14,8 +14,9 @@ ghost use Rattle.rx_class.specs.SetReading.Progress.{GivesTurn, IsOfSets, SaysNo
 use crate::reading::Reading;
 use crate::sets::builder::ClassBuilder;
 use rx_base::{Counter, Diagnostic, Fault, Span, Unterminated};
+use rx_units::UnitSource;
 
-impl<C: Counter> Reading<'_, '_, '_, '_, '_, C> {
+impl<S: UnitSource, C: Counter> Reading<'_, '_, '_, '_, '_, S, C> {
     ghost use Rattle.rx_class.specs.Readings.{ReadsOn};
 
     /// Refuses the `&` at the place, after a `&&`.

@@ -15,6 +15,7 @@ use crate::sets::character::set_character_at;
 use crate::sets::front::begins_with;
 use rx_ast::{Character, ClassString, ClassStringDisjunction};
 use rx_base::{Counter, Diagnostic, Fault, List, OutOfMemory, Span, Unterminated};
+use rx_units::UnitSource;
 use std::alloc::Global;
 use std::mem;
 
@@ -57,7 +58,7 @@ impl StringsBuilder {
     }
 }
 
-impl<C: Counter> Reading<'_, '_, '_, '_, '_, C> {
+impl<S: UnitSource, C: Counter> Reading<'_, '_, '_, '_, '_, S, C> {
     ghost use Rattle.rx_class.specs.Readings.{ReadsOn};
 
     /// Reads the class strings (ClassStringDisjunction of ECMA-262, 22.2.1) at the place, from their `\q{` on, and moves over them.
@@ -72,7 +73,7 @@ impl<C: Counter> Reading<'_, '_, '_, '_, '_, C> {
         let start = self.offset();
         self.skip(3);
         let mut builder = StringsBuilder::new(self.alloc, self.here().start);
-        while !begins_with(self.units(), '}') {
+        while !begins_with(&self.units(), '}') {
             self.string_part(start, &mut builder)?;
         }
         builder.end_string(self.alloc, self.here().start)?;
@@ -94,11 +95,11 @@ impl<C: Counter> Reading<'_, '_, '_, '_, '_, C> {
         ensures steps { TakesSteps 6 (C.count self.old.steps.now) (C.count self.new.steps.now) self.old.reader.now self.new.reader.now result }
         ensures on { ReadsOn self.old self.new }
     {
-        if begins_with(self.units(), '|') {
+        if begins_with(&self.units(), '|') {
             return Ok(self.next_string(builder)?);
         }
-        let units = self.reader.remaining_code_points();
-        let Some(found) = set_character_at(units, self.steps) else {
+        let units = self.reader.ahead();
+        let Some(found) = set_character_at(&units, self.steps) else {
             let span = self.span_from(start);
             let what = Unterminated::ClassStringDisjunction;
             return Err(Fault::Diagnostic(Diagnostic::UnterminatedPattern { span, what }));

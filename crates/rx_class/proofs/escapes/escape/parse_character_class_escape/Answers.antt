@@ -13,11 +13,11 @@ create-span-requires-clause-end g c =
 
 pub returns-in_err-kind-clause-gives : goal.returns-in_err-kind-clause-gives
 returns-in_err-kind-clause-gives g c =
-    let read = ap (λ us. class_escape_front (values us)) (sym c.remaining_code_points.ensures.units) ∙ sym c.class_escape_at.ensures ∙ c.in_err-kind.was in
+    let read = ap (λ us. class_escape_front (values us)) (sym c.ahead.ensures.units) ∙ sym c.class_escape_at.ensures ∙ c.in_err-kind.was in
     let gives = no_class_gives c.args.spans.now c.args.span_start c.args.reader.now read in
     subst (GivesClassEscape c.args.spans.now c.args.span_start c.args.reader.now c.args.reader.now) (sym c.from_residual.ensures) gives
 
 pub returns-clause-gives : goal.returns-clause-gives
 returns-clause-gives g c =
-    let read = ap (λ us. class_escape_front (values us)) (sym c.remaining_code_points.ensures.units) ∙ sym c.class_escape_at.ensures ∙ c.in_ok-kind.was in
+    let read = ap (λ us. class_escape_front (values us)) (sym c.ahead.ensures.units) ∙ sym c.class_escape_at.ensures ∙ c.in_ok-kind.was in
     class_gives c.args.spans.now c.args.span_start c.args.reader.now _ c.advance_counted.new.self read c.advance_counted.ensures.reader (rw c.offset.ensures.value at c.create-span.ensures)

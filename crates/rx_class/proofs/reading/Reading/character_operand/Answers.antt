@@ -18,13 +18,13 @@ range_operand-requires-clause-low g c = character_small (c.in_ok-low.ensures.giv
 pub range_operand-requires-clause-found : goal.range_operand-requires-clause-found
 range_operand-requires-clause-found g c =
     let found = c.in-Some.ensures.next in
-    let units = c.remaining_code_points-units.ensures in
+    let units = c.ahead-units.ensures in
     let over = over_dash _ c.class_set_character.new.self.reader.now c.advance.new.self.reader.now c.in-Some.end units.units units.code_points found.0 c.advance.ensures.reader in over.found
 
 pub range_operand-requires-clause-code_points : goal.range_operand-requires-clause-code_points
 range_operand-requires-clause-code_points g c =
     let found = c.in-Some.ensures.next in
-    let units = c.remaining_code_points-units.ensures in
+    let units = c.ahead-units.ensures in
     let over = over_dash _ c.class_set_character.new.self.reader.now c.advance.new.self.reader.now c.in-Some.end units.units units.code_points found.0 c.advance.ensures.reader in over.code_points
 
 pub push-requires-clause-sound : goal.push-requires-clause-sound
@@ -46,13 +46,13 @@ returns-in_ok-push-in-None-clause-gives g c = λ e of.
     let is = c.in_ok-push-in-None.ensures in
     adds
     (character_adds c.requires.takes is.held is.well of (c.in_ok-low.ensures.gives e of.sets)
-    (subst (λ us. IsRangeNext us (innermost_held c.args.builder.now) None) c.remaining_code_points-units.ensures.units c.in-None.ensures.next) c.requires.no_third
+    (subst (λ us. IsRangeNext us (innermost_held c.args.builder.now) None) c.ahead-units.ensures.units c.in-None.ensures.next) c.requires.no_third
     (is.events ∙ ap (λ m. builder_events c.args.builder.now ++ member_events m) (character_is c.in_ok-low.low)))
 
 pub returns-in-Some-clause-gives : goal.returns-in-Some-clause-gives
 returns-in-Some-clause-gives g c = λ e of.
     let found = c.in-Some.ensures.next in
-    let units = c.remaining_code_points-units.ensures in
+    let units = c.ahead-units.ensures in
     let over = over_dash _ c.class_set_character.new.self.reader.now c.advance.new.self.reader.now c.in-Some.end units.units units.code_points found.0 c.advance.ensures.reader in
     let spans = c.class_set_character.ensures.on.spans in
     rw (c.advance.ensures.on.spans, spans) at (c.range_operand.ensures.gives e c.args.self.now.reader.now of
@@ -63,7 +63,7 @@ returns-in-Some-clause-steps g c =
     let old = c.args.self.now.reader.now in
     let on = c.advance.new.self.reader.now in
     let found = c.in-Some.ensures.next in
-    let units = c.remaining_code_points-units.ensures in
+    let units = c.ahead-units.ensures in
     let over = over_dash _ c.class_set_character.new.self.reader.now c.advance.new.self.reader.now c.in-Some.end units.units units.code_points found.0 c.advance.ensures.reader in
     after_steps (g.C.Counter.count c.args.self.now.steps.now) (g.C.Counter.count c.advance.new.self.steps.now) (g.C.Counter.count c.range_operand.new.self.steps.now) (most_set_looks (rest old) (seen_character c.args.found))
     (most_set_looks (rest on) (seen_character c.in-Some.end)) old on c.range_operand.new.self.reader.now c.range_operand.result

@@ -37,7 +37,7 @@ returns-in-Some-2-clause-gives g c =
 pub character_atom-requires : goal.character_atom-requires
 character_atom-requires g c =
     let state = c.property_escape.ensures.on.state in
-    let so_far = nothing_so_far c.units.ensures.units c.units-2.ensures.units (c.in_default.ensures ∙ ap (λ u. alone_in_class u (values c.units.result.now)) c.is_unicode-unicode.ensures) c.in_default-class_escape_at.ensures c.in_ok-escape.ensures.gives c.in_default-2.is in
+    let so_far = nothing_so_far c.units.ensures.units c.units-2.ensures.units (c.in_default.ensures ∙ ap (λ u. alone_in_class u (values c.units.result)) c.is_unicode-unicode.ensures) c.in_default-class_escape_at.ensures c.in_ok-escape.ensures.gives c.in_default-2.is in
     record {
       backslash = subst (λ r. IsAfterBackslash r c.args.start) (sym so_far.0) c.requires.backslash;
       none = rw (so_far.0, state) so_far.1;
@@ -46,7 +46,7 @@ character_atom-requires g c =
 
 pub returns-clause-gives : goal.returns-clause-gives
 returns-clause-gives g c =
-    let so_far = nothing_so_far c.units.ensures.units c.units-2.ensures.units (c.in_default.ensures ∙ ap (λ u. alone_in_class u (values c.units.result.now)) c.is_unicode-unicode.ensures) c.in_default-class_escape_at.ensures c.in_ok-escape.ensures.gives c.in_default-2.is in
+    let so_far = nothing_so_far c.units.ensures.units c.units-2.ensures.units (c.in_default.ensures ∙ ap (λ u. alone_in_class u (values c.units.result)) c.is_unicode-unicode.ensures) c.in_default-class_escape_at.ensures c.in_ok-escape.ensures.gives c.in_default-2.is in
     rw (so_far.0, c.property_escape.ensures.on.state, c.property_escape.ensures.on.spans) at c.character_atom.ensures.gives
 
 pub returns-in-Some-class_escape_at-clause-steps : goal.returns-in-Some-class_escape_at-clause-steps
@@ -55,6 +55,6 @@ returns-in-Some-class_escape_at-clause-steps g c =
 
 pub returns-clause-steps : goal.returns-clause-steps
 returns-clause-steps g c =
-    let so_far = nothing_so_far c.units.ensures.units c.units-2.ensures.units (c.in_default.ensures ∙ ap (λ u. alone_in_class u (values c.units.result.now)) c.is_unicode-unicode.ensures) c.in_default-class_escape_at.ensures c.in_ok-escape.ensures.gives c.in_default-2.is in
+    let so_far = nothing_so_far c.units.ensures.units c.units-2.ensures.units (c.in_default.ensures ∙ ap (λ u. alone_in_class u (values c.units.result)) c.is_unicode-unicode.ensures) c.in_default-class_escape_at.ensures c.in_ok-escape.ensures.gives c.in_default-2.is in
     let nothing : g.C.Counter.count c.property_escape.new.self.steps.now ≡ g.C.Counter.count c.args.self.now.steps.now = rw c.in_default-2.is at c.in_ok-escape.ensures.steps in
     rw (so_far.0, nothing) at c.character_atom.ensures.steps

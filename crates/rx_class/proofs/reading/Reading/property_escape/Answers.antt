@@ -23,28 +23,28 @@ returns-in_err-found-clause-gives g c =
 
 pub returns-in-Property-clause-gives : goal.returns-in-Property-clause-gives
 returns-in-Property-clause-gives g c =
-    let found = rw (c.remaining_code_points-units.ensures.units, c.in-Property.is, c.mode.ensures) at c.in_ok-found.ensures.found in
+    let found = rw (c.ahead-units.ensures.units, c.in-Property.is, c.mode.ensures) at c.in_ok-found.ensures.found in
     property_gives (environment_of c.args.self.now.state.now) c.args.self.now.spans.now c.args.span_start c.args.self.now.reader.now c.requires.backslash (sym c.is_unicode.ensures ∙ c.if-not-is_unicode.false) _
     c.skip.new.self.reader.now c.in-Property.length found (span_on c.skip.ensures.on _ c.span_from-span.ensures) c.skip.ensures.reader
 
 pub returns-in-Nothing-clause-gives : goal.returns-in-Nothing-clause-gives
-returns-in-Nothing-clause-gives g c = none refl (inr (rw (c.remaining_code_points-units.ensures.units, c.in-Nothing.is) at c.in_ok-found.ensures.found))
+returns-in-Nothing-clause-gives g c = none refl (inr (rw (c.ahead-units.ensures.units, c.in-Nothing.is) at c.in_ok-found.ensures.found))
 
 pub returns-in-Halt-clause-gives : goal.returns-in-Halt-clause-gives
 returns-in-Halt-clause-gives g c =
-    let halts = rw (c.remaining_code_points-units.ensures.units, c.in-Halt.is, c.mode.ensures) at c.in_ok-found.ensures.found in
+    let halts = rw (c.ahead-units.ensures.units, c.in-Halt.is, c.mode.ensures) at c.in_ok-found.ensures.found in
     halt_gives (environment_of c.args.self.now.state.now) c.args.self.now.spans.now c.args.span_start c.args.self.now.reader.now c.requires.backslash _ _ _ halts c.refusal.ensures.refusal c.refusal.ensures.reader
 
 pub returns-in_err-found-clause-steps : goal.returns-in_err-found-clause-steps
 returns-in_err-found-clause-steps g c =
     let old = c.args.self.now.reader.now in
-    let steps = rw c.remaining_code_points-units.ensures.units at c.in_err-found.ensures.steps in
+    let steps = rw c.ahead-units.ensures.units at c.in_err-found.ensures.steps in
     handed (IsReading 6 (g.C.Counter.count c.args.self.now.steps.now) (g.C.Counter.count c.property_at.new.steps) old old) c.from_residual.ensures.1 (omega (arith, steps.1))
 
 pub returns-in-Property-clause-steps : goal.returns-in-Property-clause-steps
 returns-in-Property-clause-steps g c =
     let old = c.args.self.now.reader.now in
-    let found = rw (c.remaining_code_points-units.ensures.units, c.in-Property.is) at c.in_ok-found.ensures.found in
+    let found = rw (c.ahead-units.ensures.units, c.in-Property.is) at c.in_ok-found.ensures.found in
     let steps = rw c.in-Property.is at c.in_ok-found.ensures.steps in
     let within = property_within found in
     looked_then_moved c.in-Property.length old c.skip.new.self.reader.now (g.C.Counter.count c.args.self.now.steps.now) (g.C.Counter.count c.property_at.new.steps) (g.C.Counter.count c.skip.new.self.steps.now)
@@ -55,5 +55,5 @@ returns-in-Nothing-clause-steps g c = let steps = rw c.in-Nothing.is at c.in_ok-
 
 pub returns-in-Halt-clause-steps : goal.returns-in-Halt-clause-steps
 returns-in-Halt-clause-steps g c =
-    let steps = rw (c.in-Halt.is, c.remaining_code_points-units.ensures.units) at c.in_ok-found.ensures.steps in
+    let steps = rw (c.in-Halt.is, c.ahead-units.ensures.units) at c.in_ok-found.ensures.steps in
     omega (arith, steps.1, c.refusal.ensures.steps)

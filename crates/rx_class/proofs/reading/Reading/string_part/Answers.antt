@@ -14,12 +14,12 @@ returns-in_err-next_string-clause-refused g c =
 
 pub returns-in_default-clause-refused : goal.returns-in_default-clause-refused
 returns-in_default-clause-refused g c = λ e sets.
-    let no_bar : starts 124 (values c.units.result.now) ≡ false = sym c.begins_with.ensures ∙ c.if-begins_with.false in
+    let no_bar : starts 124 (values c.units.result) ≡ false = sym c.begins_with.ensures ∙ c.if-begins_with.false in
     none_refuses e sets c.args.self.now.spans.now c.args.self.now.reader.now c.args.self.now.reader.now c.args.start _ c.requires.goes_on (sym (ap (λ us. starts 124 (values us)) c.units.ensures.units) ∙ no_bar)
-    (sym (c.in_default.ensures.read ∙ ap set_character_at c.remaining_code_points-units.ensures.units)) c.requires.within c.span_from-span.ensures
+    (sym (c.in_default.ensures.read ∙ ap set_character_at c.ahead-units.ensures.units)) c.requires.within c.span_from-span.ensures
 
 pub class_set_character-requires-clause-found : goal.class_set_character-requires-clause-found
-class_set_character-requires-clause-found g c = sym (c.in-Some.ensures.read ∙ ap set_character_at c.remaining_code_points-units.ensures.units)
+class_set_character-requires-clause-found g c = sym (c.in-Some.ensures.read ∙ ap set_character_at c.ahead-units.ensures.units)
 
 pub returns-in_err-character-clause-refused : goal.returns-in_err-character-clause-refused
 returns-in_err-character-clause-refused g c =
@@ -38,22 +38,22 @@ returns-clause-added g c = λ e sets.
 
 pub returns-in_err-character-clause-steps : goal.returns-in_err-character-clause-steps
 returns-in_err-character-clause-steps g c =
-    let looks = rw c.remaining_code_points-units.ensures.units at c.in-Some.ensures.steps in
+    let looks = rw c.ahead-units.ensures.units at c.in-Some.ensures.steps in
     handed (TakesSteps 6 (g.C.Counter.count c.args.self.now.steps.now) (g.C.Counter.count c.class_set_character.new.self.steps.now) c.args.self.now.reader.now c.class_set_character.new.self.reader.now) c.from_residual-in_err-character.ensures.1
     (omega (arith, looks, c.in_err-character.ensures.steps))
 
 pub returns-in_err-push-clause-steps : goal.returns-in_err-push-clause-steps
 returns-in_err-push-clause-steps g c =
-    let looks = rw c.remaining_code_points-units.ensures.units at c.in-Some.ensures.steps in
+    let looks = rw c.ahead-units.ensures.units at c.in-Some.ensures.steps in
     handed (TakesSteps 6 (g.C.Counter.count c.args.self.now.steps.now) (g.C.Counter.count c.class_set_character.new.self.steps.now) c.args.self.now.reader.now c.class_set_character.new.self.reader.now) c.from_residual-in_err-push.ensures.1
     (omega (arith, looks, c.in_ok-character.ensures.steps))
 
 pub returns-clause-steps : goal.returns-clause-steps
 returns-clause-steps g c =
-    let looks = rw c.remaining_code_points-units.ensures.units at c.in-Some.ensures.steps in
+    let looks = rw c.ahead-units.ensures.units at c.in-Some.ensures.steps in
     (omega (arith, looks, c.in_ok-character.ensures.steps), omega (arith, looks, c.in_ok-character.ensures.steps))
 
 pub returns-in_default-clause-steps : goal.returns-in_default-clause-steps
 returns-in_default-clause-steps g c =
-    let fit = looks_fit c.remaining_code_points-units.result.now (seen_if_some c.set_character_at.result) (sym c.set_character_at.ensures.read) in
-    omega (arith, fit, c.set_character_at.ensures.steps, ap length c.remaining_code_points-units.ensures.units)
+    let fit = looks_fit c.ahead-units.result (seen_if_some c.set_character_at.result) (sym c.set_character_at.ensures.read) in
+    omega (arith, fit, c.set_character_at.ensures.steps, ap length c.ahead-units.ensures.units)
