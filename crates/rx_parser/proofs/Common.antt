@@ -95,7 +95,7 @@ pub use Rattle.rx_parser.specs.declared.frame.Frame.{Frame}
 pub use Rattle.rx_parser.specs.declared.frame.GroupKind.{GroupKind}
 pub use Rattle.rx_parser.specs.declared.level.Level.{Level}
 pub use Rattle.rx_parser.specs.declared.turn.Parse.{Parse}
-pub use Rattle.rx_scan.proofs.MarkSteps.{values_at, values_drop}
+pub use Rattle.rx_scan.proofs.MarkSteps.{values_drop}
 pub use Rattle.rx_scan.specs.Environments.{seen_environment, state_environment}
 pub use Rattle.rx_scan.specs.StateFaults.{IsStateFault, mode_of_state, name_offsets}
 pub use Rattle.rx_scan.specs.declared.state.State.{State}

@@ -13,6 +13,11 @@ use Rattle.rx_parser.specs.declared.found.Found.{Found}
 use Rattle.rx_parser.specs.declared.found.Found.TheVariants as found
 use Rattle.rx_parser.specs.declared.found.OpenerFound.TheVariants as opener_found
 
+-- units of which the first has this value
+front_values : (us : List CodePoint) (c : ℕ) → front us ≡ Some c → values us ≡ c ∷ drop 1 (values us)
+front_values [] c is = absurd (let no : ⊥ = cc is in no)
+front_values (u ∷ us) c is = let same : u.value ≡ c = cc is in ap (λ c. c ∷ values us) same
+
 -- `(` that no `?` follows, by the units after it; and `(?:`, by all units
 capturing_read : (unicode_mode : Bool) (w : List ℕ) → starts 63 w ≡ false → group_read unicode_mode w ≡ token_read (opener (capturing None)) 1
 capturing_read m [] h = refl
@@ -31,14 +36,14 @@ unfolding counts_read_at
 sign_read e sign min max true w one counts second = grind (arith, nat_tests)
 sign_read e sign min max false w one counts second = grind (arith, nat_tests)
 
-module _ (p : Parse) {us : List CodePoint} (here : us ≡ rest p.reader) (small : All (λ (u : CodePoint). u.value ≤ 0x10FFFF) us) where
+module _ {S U : Type 0} (p : Parse S U) {us : List CodePoint} (here : us ≡ rest p.reader) (small : All (λ (u : CodePoint). u.value ≤ 0x10FFFF) us) where
   abbrev e : Environment
   e = text_environment p.builder.mode p.builder.rules p.reader.units
 
   -- What is read by a first unit that never stands for itself stands there.
   pub stands : {it : Found} (c : ℕ) → front (rest p.reader) ≡ Some c → is_legacy_syntax c ≡ true → found_front (read_after e c (drop 1 (values us))) ≡ it → StandsNext p it
   stands {it} c is legacy found =
-      let read = ap found_front (read_by_first e us c (ap front here ∙ is) legacy) ∙ found in
+      let read = ap found_front (read_by_first e us c (drop 1 (values us)) (front_values us c (ap front here ∙ is)) legacy) ∙ found in
       subst (λ us. IsFound e us it) here (subst (IsFound e us) read (front_found e us (ap (λ always. always || has_some (text_names p.builder.mode p.reader.units))) small))
 
   pub capturing_stands : front (rest p.reader) ≡ Some ascii.left_parenthesis → starts ascii.question_mark (drop 1 (values us)) ≡ false → StandsNext p (found.Open opener_found.Capturing 1)

@@ -3,8 +3,8 @@ use Rattle.std.proofs.Common.{All, ◌≡◌, refl, sym, ap, ap₂, ◌∙◌, s
 use Rattle.rx_parser.proofs.Common.{take-append_seam, nat_tests, is_syntax_character, CodePoint, values, PassesHex, Mode, Legacy, Sets, Unicode, starts, BeginsName, of_group, of_reference, ModifiersHalt, Environment, is_unicode, are_counts, counts_at, front, is_raw_at, is_legacy_syntax, stands_raw}
 use Rattle.rx_parser.proofs.Common.{Token, Opener, boundary, character, dot, class_escape, property, class, indexed, named, opener, closer, bar, quantifier, capturing, ignoring, looking, Front, front_spelled, legacy_syntax, HoldsName, IsFound, IsOpenerFound, found_front, found_halt, found_opener}
 use Rattle.rx_parser.proofs.Common.{found_name_halt, unit_kind, IsNameRow, no_name, some_name, SpellsName, IsStop, at_end, at_closer, at_bracket, at_brace, after_backslash, bits_small, AreWrong, unknown, duplicated, empty, invalid, EscapeAfter, SaysNameHalt, Says, SaysHalt, front_said, halt_end}
-use Rattle.std.proofs.lemmas.Bool.{and_from, cond-false, cond-true, false_from_ne_true, ne_eqb, or_right, true≢false}
-use Rattle.std.proofs.lemmas.List.{drop-map, length-drop, length-map, map-append, take-map, take_all}
+use Rattle.std.proofs.lemmas.Bool.{and_from, cond-false, cond-true, false_from_ne_true, or_right, true≢false}
+use Rattle.std.proofs.lemmas.List.{drop-map, length-drop, length-map, map-append, take-map}
 use Rattle.rx_units.specs.Cursor as cursor
 use Rattle.rx_model.specs.Groups.GroupNameReading.{name_of}
 use Rattle.rx_model.specs.Groups.NameFronts.{NameHalt, unterminated, misplaced_pair, misplaced, no_escape, no_escape_of_u, many_digits}
@@ -14,12 +14,23 @@ use Rattle.rx_model.proofs.Quantifiers.CountsReading.{limit_within}
 use Rattle.rx_parser.specs.declared.found.Found.TheVariants as found
 use Rattle.rx_parser.specs.declared.found.Leaf.TheVariants as leaf
 
--- a unit that stands for itself
-pub raw_alone : (e : Environment) (us : List CodePoint) (d : CodePoint) → 1 ≤ length us → is_raw_at e (get_or us 0 d).value (values (take (length us - 1) (drop 1 us))) ≡ true
-    → front_read e us ≡ token_read (character (unit_kind (get_or us 0 d).escape_kind) (get_or us 0 d).value) 1
+-- The value of the first unit and what stands after it say what is read.
+abbrev pub read_after : Environment → ℕ → List ℕ → FrontRead
+read_after e c w = if c == 92 then backslash_read e w else (if c == 91 then class_begins else syntax_read e c w)
+
+pub read_by_values : (e : Environment) (us : List CodePoint) (c : ℕ) (w : List ℕ) → values us ≡ c ∷ w
+    → front_read e us ≡ (if is_raw_at e c w then token_read (character (unit_kind (cursor.front_kind us)) c) 1 else read_after e c w)
 unfolding front_read
-raw_alone e [] d l raw = absurd (omega arith)
-raw_alone e (u ∷ us) d l raw = cond-true (is_raw_at e u.value (values us)) _ _ (ap (λ us. is_raw_at e u.value (values us)) (sym (take_all (length (u ∷ us) - 1) us (omega arith))) ∙ raw)
+read_by_values e [] c w whole = absurd (let no : ⊥ = cc whole in no)
+read_by_values e (u ∷ us) c w whole =
+    let same : u.value ≡ c = cc whole in
+    let following : values us ≡ w = cc whole in
+    rw (same, following) refl
+
+pub read_none : (e : Environment) (us : List CodePoint) → values us ≡ [] → front_read e us ≡ halted (ends_here 0)
+unfolding front_read
+read_none e [] none = refl
+read_none e (u ∷ us) none = absurd (let no : ⊥ = cc none in no)
 
 -- what the ExtendedPatternCharacter of B.1.2 leaves out stands for itself in no mode
 never_raw : (mode : Mode) (c : ℕ) → is_legacy_syntax c ≡ true → stands_raw mode c ≡ false
@@ -27,40 +38,10 @@ never_raw Legacy c h = ap not h
 never_raw Unicode c h = ap not (legacy_syntax c h)
 never_raw Sets c h = ap not (legacy_syntax c h)
 
--- So its value and the units after it say what is read.
-abbrev pub read_after : Environment → ℕ → List ℕ → FrontRead
-read_after e c w = if c == 92 then backslash_read e w else (if c == 91 then class_begins else syntax_read e c w)
-
-pub read_by_first : (e : Environment) (us : List CodePoint) (c : ℕ) → cursor.front us ≡ Some c → is_legacy_syntax c ≡ true → front_read e us ≡ read_after e c (drop 1 (values us))
-unfolding front_read
-read_by_first e [] c is legacy = absurd (let no : ⊥ = cc is in no)
-read_by_first e (u ∷ us) c is legacy =
-    let same : u.value ≡ c = cc is in
-    let raw : is_raw_at e c (values us) ≡ false = ap (λ b. b && (is_unicode e.mode || not (are_counts (counts_at (c ∷ values us))))) (never_raw e.mode c legacy) in
-    rw same (cond-false (is_raw_at e c (values us)) _ _ raw)
-
--- a backslash
-pub backslash_alone : (e : Environment) (us : List CodePoint) (d : CodePoint) → 1 ≤ length us → (get_or us 0 d).value ≡ 92
-    → front_read e us ≡ backslash_read e (values (take (length us - 1) (drop 1 us)))
-backslash_alone e [] d l is = absurd (omega arith)
-backslash_alone e (u ∷ us) d l is = read_by_first e (u ∷ us) 92 (ap Some is) refl ∙ ap (λ us. backslash_read e (values us)) (sym (take_all (length (u ∷ us) - 1) us (omega arith)))
-
--- the beginning of a class
-pub bracket_alone : (e : Environment) (us : List CodePoint) (d : CodePoint) → 1 ≤ length us → (get_or us 0 d).value ≡ 91 → front_read e us ≡ class_begins
-bracket_alone e [] d l is = absurd (omega arith)
-bracket_alone e (u ∷ us) d l is = read_by_first e (u ∷ us) 91 (ap Some is) refl
-
--- another that is neither a backslash nor `[`
-pub syntax_alone : (e : Environment) (us : List CodePoint) (d : CodePoint) → 1 ≤ length us → is_raw_at e (get_or us 0 d).value (values (take (length us - 1) (drop 1 us))) ≡ false
-    → ((get_or us 0 d).value ≡ 92 → ⊥) → ((get_or us 0 d).value ≡ 91 → ⊥) → front_read e us ≡ syntax_read e (get_or us 0 d).value (values (take (length us - 1) (drop 1 us)))
-unfolding front_read
-syntax_alone e [] d l raw no_backslash no_bracket = absurd (omega arith)
-syntax_alone e (u ∷ us) d l raw no_backslash no_bracket =
-    let following = take_all (length (u ∷ us) - 1) us (omega arith) in
-    cond-false (is_raw_at e u.value (values us)) _ _ (ap (λ us. is_raw_at e u.value (values us)) (sym following) ∙ raw)
-    ∙ cond-false (u.value == 92) _ _ (ne_eqb u.value 92 no_backslash)
-    ∙ cond-false (u.value == 91) _ _ (ne_eqb u.value 91 no_bracket)
-    ∙ ap (λ us. syntax_read e u.value (values us)) (sym following)
+pub read_by_first : (e : Environment) (us : List CodePoint) (c : ℕ) (w : List ℕ) → values us ≡ c ∷ w → is_legacy_syntax c ≡ true → front_read e us ≡ read_after e c w
+read_by_first e us c w whole legacy =
+    let raw : is_raw_at e c w ≡ false = ap (λ b. b && (is_unicode e.mode || not (are_counts (counts_at (c ∷ w))))) (never_raw e.mode c legacy) in
+    read_by_values e us c w whole ∙ cond-false (is_raw_at e c w) _ _ raw
 
 -- What is no SyntaxCharacter stands for itself in every mode, whatever follows.
 plain_stands : (mode : Mode) (c : ℕ) → is_syntax_character c ≡ false → stands_raw mode c ≡ true
@@ -77,6 +58,12 @@ plain_begins_none c w h = let no = plain_counts c h in rw (no.0, no.1, no.2, no.
 
 plain_raw : (e : Environment) (c : ℕ) (w : List ℕ) → is_syntax_character c ≡ false → is_raw_at e c w ≡ true
 plain_raw e c w h = and_from (stands_raw e.mode c) _ (plain_stands e.mode c h) (or_right (is_unicode e.mode) _ (ap not (plain_begins_none c w h)))
+
+-- So a unit that is no SyntaxCharacter is read by itself.
+plain_read : (e : Environment) (us : List CodePoint) (d : CodePoint) → 1 ≤ length us → is_syntax_character (get_or us 0 d).value ≡ false
+    → front_read e us ≡ token_read (character (unit_kind (get_or us 0 d).escape_kind) (get_or us 0 d).value) 1
+plain_read e [] d some plain = absurd (omega arith)
+plain_read e (u ∷ us) d some plain = read_by_values e (u ∷ us) u.value (values us) refl ∙ cond-true (is_raw_at e u.value (values us)) _ _ (plain_raw e u.value (values us) plain)
 
 -- a name between three units and `>`
 named_units : (m : Bool) (a b c : ℕ) (us w rest : List CodePoint) (name spelled : List ℕ) (n : ℕ) → us ≡ w ++ rest → length w ≡ n → values w ≡ a ∷ b ∷ c ∷ (spelled ++ (62 ∷ []))
@@ -207,4 +194,4 @@ module _ (e : Environment) (us : List CodePoint) where
   -- A unit that is no SyntaxCharacter is found there.
   pub plain_found : (d : CodePoint) → (is_unicode e.mode ≡ true → e.named ≡ true) → All (λ (u : CodePoint). u.value ≤ 0x10FFFF) us → 1 ≤ length us → is_syntax_character (get_or us 0 d).value ≡ false
       → IsFound e us (found.Leaf (leaf.Character (unit_kind (get_or us 0 d).escape_kind) (get_or us 0 d).value) 1)
-  plain_found d allowed small some plain = subst (IsFound e us) (ap found_front (raw_alone e us d some (plain_raw e _ _ plain))) (front_found allowed small)
+  plain_found d allowed small some plain = subst (IsFound e us) (ap found_front (plain_read e us d some plain)) (front_found allowed small)

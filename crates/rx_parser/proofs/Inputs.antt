@@ -28,8 +28,8 @@ module _ (input : Input) where
   no_other it no_memory valid = refl
   no_other it (refused {refusal = d} h) valid = absurd (none_of_valid input d h valid)
 
-  fault_parsed : (it : Fault) → IsFaultOf input it → IsParsed (λ (p : Pattern × Mode). p.0) input (Err it)
-  fault_parsed it h = record { valid = tt; complete = no_other it h; read = tt; refused = h }
+  fault_parsed : {A : Type 0} (tree : A → Pattern) (it : Fault) → IsFaultOf input it → IsParsed tree input (Err it)
+  fault_parsed tree it h = record { valid = tt; complete = no_other it h; read = tt; refused = h }
 
   -- a fault that is passed on
   pub passed_fault : {A : Type 0} (r : Result A Fault) (it : Fault) → IsErrAnd r (λ e. e ≡ it) → IsFaultOf input it → IfErr r (IsFaultOf input)
@@ -37,7 +37,7 @@ module _ (input : Input) where
 
   -- the same as the answer to the input
   pub passed_parsed : (r : Result (Pattern × Mode) Fault) (it : Fault) → IsErrAnd r (λ e. e ≡ it) → IsFaultOf input it → IsParsed (λ (p : Pattern × Mode). p.0) input r
-  passed_parsed r it passed h = subst (IsParsed (λ (p : Pattern × Mode). p.0) input) (sym (passed_on r it passed)) (fault_parsed it h)
+  passed_parsed r it passed h = subst (IsParsed (λ (p : Pattern × Mode). p.0) input) (sym (passed_on r it passed)) (fault_parsed (λ (p : Pattern × Mode). p.0) it h)
 
   -- A text that is not decoded is refused as a whole,
   unread_fault : (it : Fault) (d : Diagnostic) (Unread : Type 0) → (Unread → IsFirstRefusal input d) → (it ≡ fault.OutOfMemory) ⊎ ((it ≡ fault.Diagnostic d) × Unread) → IsFaultOf input it
@@ -86,14 +86,15 @@ module _ (input : Input) where
 
   -- a text that is read, and its units
   module _ (mode : Mode) (us : List CodePoint) (asked : Asks input mode us) where
-    pub units_fault : (it : Fault) → IsRefused mode input.rules us (first_offset input.form) input.text_offset it → IsFaultOf input it
+    units_fault : (it : Fault) → IsRefused mode input.rules us (first_offset input.form) input.text_offset it → IsFaultOf input it
     units_fault fault.OutOfMemory h = no_memory
     units_fault (fault.Diagnostic d) h = refused (of_text asked h)
 
-    pub units_parsed : (p : Pattern) (m : Mode) → AnswersUnits mode input.rules us (first_offset input.form) input.text_offset (Ok p) → IsParsed (λ (p : Pattern × Mode). p.0) input (Ok (p, m))
-    units_parsed p m a = record {
+    pub units_parsed : (answer : Result Pattern Fault) → AnswersUnits mode input.rules us (first_offset input.form) input.text_offset answer → IsParsed (λ (p : Pattern). p) input answer
+    units_parsed (Ok p) a = record {
       valid = record { mode = mode; units = us; asked = asked; pattern = p; reads = a.whole.reads };
       complete = λ _. tt;
       read = (mode, record { units = us; asked = asked; reads = a.whole.reads; only = a.only; spanned = a.whole.spanned; groups = a.groups });
       refused = tt;
     }
+    units_parsed (Err it) a = fault_parsed (λ (p : Pattern). p) it (units_fault it a.refused)

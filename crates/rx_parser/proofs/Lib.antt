@@ -10,6 +10,7 @@ pub mod Goods
 pub mod Halts
 pub mod Inputs
 pub mod Insides
+pub mod Items
 pub mod Leaves
 pub mod Looks
 pub mod ModifierBits

@@ -1,6 +1,6 @@
 -- How many looks it takes to find what stands at the front.
-use Rattle.std.proofs.Common.{◌≡◌, ◌∙◌, refl, ap, sym, ℕ, ◌+◌, ◌-◌, ◌*◌, ◌≤◌, ◌==◌, ◌||◌, Bool, true, false, inl, inr, List, [], ◌∷◌, ◌++◌, length, drop, get_or, min, arith, if◌then◌else◌}
-use Rattle.rx_parser.proofs.Common.{nat_tests, Rises, is_decimal_digit, CodePoint, values, starts, Environment, is_unicode, escape_read, found_front, LooksAtEscape, LooksAtSyntax, digit_run, halt_looks, looks, name_looks, plain, token_looks, CharacterKind, SpellsLegacy, begins_property, any_refused}
+use Rattle.std.proofs.Common.{◌≡◌, ◌∙◌, refl, ap, sym, ℕ, ◌+◌, ◌-◌, ◌*◌, ◌≤◌, ◌==◌, ◌||◌, Bool, true, false, inl, inr, List, [], ◌∷◌, ◌++◌, length, drop, min, arith, if◌then◌else◌}
+use Rattle.rx_parser.proofs.Common.{nat_tests, Rises, is_decimal_digit, CodePoint, values, starts, Environment, is_unicode, escape_read, found_front, LooksAtEscape, LooksAtSyntax, digit_run, halt_looks, looks, name_looks, plain, token_looks, CharacterKind, SpellsLegacy, begins_property, any_refused, values_drop}
 use Rattle.rx_parser.proofs.Common.{any_spelled, seen_escape}
 use Rattle.std.proofs.lemmas.Bool.{cases_Bool, cond-false, true≢false}
 use Rattle.std.specs.List.{prefix_len}
@@ -15,11 +15,12 @@ use Rattle.rx_class.specs.declared.escapes.found.EscapeFound.{EscapeFound}
 use Rattle.rx_class.specs.declared.escapes.found.EscapeFound.TheVariants as escape
 use Rattle.rx_class.proofs.EscapeReading.Bounds.{read_within}
 use Rattle.rx_class.proofs.EscapeReading.Steps.{spelled_long}
+use Rattle.rx_scan.proofs.MarkSteps.{values_length}
 use Rattle.rx_parser.specs.declared.found.Found.{Found}
 use Rattle.rx_parser.specs.declared.found.Found.TheVariants as found
 use Rattle.rx_parser.specs.declared.name.NameFound.{NameFound}
 use Rattle.rx_parser.specs.declared.name.NameFound.TheVariants as name
-use Rattle.rx_parser.proofs.Paces.{plain_reach, plain_within, run_reach, run_stops, run_under_plain, run_within}
+use Rattle.rx_parser.proofs.Paces.{plain_reach, plain_same, plain_within, run_reach, run_stops, run_under_plain, run_within}
 
 -- a name, and what stands after it
 pub name_steps : (units tail n old mid new : ℕ) (escapes : Bool) (it : NameFound) → (escapes ≡ false → mid ≤ old + 2 * n + 1) → mid ≤ old + units + n + 4 → n + 2 * old ≤ 2 * mid
@@ -42,6 +43,22 @@ module _ (following : List CodePoint) (old mid new units : ℕ) where
   syntax_steps found.Bar first within more = (omega arith, omega arith)
   syntax_steps (found.Quantifier least most greedy n) first within more = (omega arith, of_token n first.1 more.1)
   syntax_steps (found.Halt it) first within more = (omega arith, omega (arith, first.1, more.1, within, plain_within following))
+
+-- Units of the same values are looked at as often.
+module _ (us vs : List CodePoint) (same : values us ≡ values vs) where
+  token_same : (n : ℕ) → token_looks us n ≡ token_looks vs n
+  token_same n = ap (λ k. 4 * n + 2 * k + 1) (plain_same (drop (n - 1) us) (drop (n - 1) vs) (values_drop (n - 1) us ∙ ap (drop (n - 1)) same ∙ sym (values_drop (n - 1) vs)))
+
+  pub looks_same : (it : Found) → looks us it ≡ looks vs it
+  looks_same (found.Leaf leaf n) = token_same n
+  looks_same (found.NamedReference n) = token_same n
+  looks_same found.Property = refl
+  looks_same found.Class = refl
+  looks_same (found.Open opener n) = token_same n
+  looks_same found.Close = token_same 1
+  looks_same found.Bar = token_same 1
+  looks_same (found.Quantifier least most greedy n) = token_same n
+  looks_same (found.Halt it) = omega (arith, ap length same, values_length us, values_length vs)
 
 -- looks at digits, and then at an escape
 module _ (following : List CodePoint) (old mid new : ℕ) where
@@ -71,8 +88,8 @@ module _ (following : List CodePoint) (old mid new : ℕ) where
 property_no_digit : (c : ℕ) → begins_property c ≡ true → is_decimal_digit c ≡ false
 property_no_digit c h = grind (arith, nat_tests)
 
-pub property_run : (us : List CodePoint) (d : CodePoint) → 1 ≤ length us → begins_property (get_or us 0 d).value ≡ true → digit_run us ≡ 0
-property_run us d some h = run_stops us 0 d (omega arith) (property_no_digit (get_or us 0 d).value h)
+pub property_run : (us : List CodePoint) (c : ℕ) (w : List ℕ) → values us ≡ c ∷ w → begins_property c ≡ true → digit_run us ≡ 0
+property_run us c w whole h = run_stops us c w whole (property_no_digit c h)
 
 -- no digit stands where a `c` does
 letter_run : (us : List CodePoint) → starts 99 (values us) ≡ true → prefix_len (λ (u : CodePoint). is_decimal_digit u.value) us ≡ 0

@@ -1,9 +1,9 @@
 -- The bits of letters of modifiers.
 use Rattle.std.proofs.Common.{◌≡◌, refl, sym, ap, ap₂, ◌∙◌, subst, ℕ, ◌+◌, ◌<◌, true, false, cond, ◌==◌, ◌||◌, Some, None, List, [], ◌∷◌, ◌++◌, length, take, drop, get_or, bit_and, bit_or, arith, inl, inr}
-use Rattle.rx_parser.proofs.Common.{nat_tests, CodePoint, values, is_modifier, occurs, has_twice, letters_bits, are_bits, values_at, and_three, or_three, three, chosen}
-use Rattle.std.proofs.lemmas.Bool.{cases_Bool, eqb-true, cond-true, cond-false, or_parts, or_from, or_left, or_right, or_cases, eq-eqb, false_from_ne_true, true≢false}
-use Rattle.std.proofs.lemmas.List.{map-append, map_more, take-append-drop}
-use Rattle.std.proofs.lemmas.List.Folds.{list_all-map, list_all_at, list_any-append}
+use Rattle.rx_parser.proofs.Common.{nat_tests, is_modifier, occurs, has_twice, letters_bits, are_bits, and_three, or_three, three, chosen}
+use Rattle.std.proofs.lemmas.Bool.{and_parts, cases_Bool, eqb-true, cond-true, cond-false, or_parts, or_from, or_left, or_right, or_cases, eq-eqb, false_from_ne_true, true≢false}
+use Rattle.std.proofs.lemmas.List.{drop_more, length-drop, take-append-drop, take_more}
+use Rattle.std.proofs.lemmas.List.Folds.{list_all-append, list_any-append}
 use Rattle.std.proofs.lemmas.Nat.{and_comm}
 use Rattle.std.specs.List.{list_all}
 use Rattle.rx_parser.specs.Modifiers.{modifier_bit}
@@ -90,39 +90,32 @@ once_more c (d ∷ w) h k =
     (occurs_more d c w ∙ or_from (occurs d w) ((c == d) || false) twice.0 (or_from (c == d) false (same_turned d c other.0) refl))
     (once_more c w twice.1 other.1)
 
--- one more value
-values_more : (us : List CodePoint) (k : ℕ) (d : CodePoint) → k < length us → values (take (k + 1) us) ≡ values (take k us) ++ (get_or us k d).value ∷ []
-values_more us k d h = map_more (λ u. u.value) us k d h
+module _ (w : List ℕ) (i : ℕ) {letter : ℕ} (here : drop i w ≡ letter ∷ drop (i + 1) w) where
+  parted : w ≡ take i w ++ (letter ∷ drop (i + 1) w)
+  parted = sym (take-append-drop i w) ∙ ap (λ v. take i w ++ v) here
 
-module _ (us : List CodePoint) (i : ℕ) (d : CodePoint) (within : i < length us) where
-  abbrev letter : ℕ
-  letter = (get_or us i d).value
+  -- one more letter
+  letters_more : take (i + 1) w ≡ take i w ++ (letter ∷ [])
+  letters_more =
+      let within : i < length w = omega (arith, ap length here, length-drop i w) in
+      let at = sym (drop_more w i 0 within) ∙ here in
+      let same : get_or w i 0 ≡ letter = cc at in
+      take_more w i 0 within ∙ ap (λ c. take i w ++ (c ∷ [])) same
 
-  letter_is : list_all is_modifier (values us) ≡ true → is_modifier letter ≡ true
-  letter_is h = elim (cases_Bool (is_modifier letter)) [
-    | inl there ↦ there
-    | inr none ↦ absurd (true≢false (sym h ∙ list_all-map is_modifier (λ (u : CodePoint). u.value) us ∙ list_all_at (λ (u : CodePoint). is_modifier u.value) us i d within none))
-  ]
+  letter_is : list_all is_modifier w ≡ true → is_modifier letter ≡ true
+  letter_is h = (and_parts _ _ (and_parts _ _ (sym (list_all-append is_modifier (take i w) _) ∙ ap (list_all is_modifier) (sym parted) ∙ h)).1).0
 
   -- a letter has a bit
-  pub some_bit : list_all is_modifier (values us) ≡ true → None ≡ modifier_bit letter → ⊥
+  pub some_bit : list_all is_modifier w ≡ true → None ≡ modifier_bit letter → ⊥
   some_bit h k = bit_none letter (letter_is h) (sym k)
 
-  parted : values us ≡ values (take i us) ++ (letter ∷ values (drop (i + 1) us))
-  parted =
-      ap values (sym (take-append-drop i us))
-      ∙ map-append (λ (u : CodePoint). u.value) (take i us) (drop i us)
-      ∙ ap (λ w. values (take i us) ++ w) (values_at us i d within)
-
   -- a letter whose bit is set already
-  pub no_bits_twice : (bit : ℕ) → Some bit ≡ modifier_bit letter → bit_and (letters_bits (values (take i us))) bit ≡ bit → None ≡ are_bits (values us)
+  pub no_bits_twice : (bit : ℕ) → Some bit ≡ modifier_bit letter → bit_and (letters_bits (take i w)) bit ≡ bit → None ≡ are_bits w
   no_bits_twice bit h k =
-      sym (cond-true (has_twice (values us)) None (Some (letters_bits (values us)))
-      (ap has_twice parted ∙ twice_there letter (values (take i us)) (values (drop (i + 1) us)) (occurs_there letter bit (values (take i us)) (sym h) k)))
+      sym (cond-true (has_twice w) None (Some (letters_bits w)) (ap has_twice parted ∙ twice_there letter (take i w) (drop (i + 1) w) (occurs_there letter bit (take i w) (sym h) k)))
 
-  pub once_next : (bit : ℕ) → Some bit ≡ modifier_bit letter → (bit_and (letters_bits (values (take i us))) bit ≡ bit → ⊥) → has_twice (values (take i us)) ≡ false
-      → has_twice (values (take (i + 1) us)) ≡ false
-  once_next bit h k once = ap has_twice (values_more us i d within) ∙ once_more letter (values (take i us)) once (occurs_nowhere letter bit (values (take i us)) (sym h) k)
+  pub once_next : (bit : ℕ) → Some bit ≡ modifier_bit letter → (bit_and (letters_bits (take i w)) bit ≡ bit → ⊥) → has_twice (take i w) ≡ false → has_twice (take (i + 1) w) ≡ false
+  once_next bit h k once = ap has_twice letters_more ∙ once_more letter (take i w) once (occurs_nowhere letter bit (take i w) (sym h) k)
 
-  pub bits_next : (bit : ℕ) → Some bit ≡ modifier_bit letter → bit_or (letters_bits (values (take i us))) bit ≡ letters_bits (values (take (i + 1) us))
-  bits_next bit h = bit_inserted letter bit (values (take i us)) (sym h) ∙ ap letters_bits (sym (values_more us i d within))
+  pub bits_next : (bit : ℕ) → Some bit ≡ modifier_bit letter → bit_or (letters_bits (take i w)) bit ≡ letters_bits (take (i + 1) w)
+  bits_next bit h = bit_inserted letter bit (take i w) (sym h) ∙ ap letters_bits (sym letters_more)

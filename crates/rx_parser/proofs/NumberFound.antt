@@ -1,7 +1,9 @@
 -- The number of the digits that stand next, as they are read.
-use Rattle.std.proofs.Common.{◌≡◌, ◌∙◌, sym, nat_le, arith, ◌<◌, ℕ, ◌+◌, ◌-◌, ◌*◌, ◌^◌, List, [], ◌∷◌, drop, inl, inr, min}
+use Rattle.std.proofs.Common.{◌≡◌, ◌∙◌, refl, sym, nat_le, arith, ◌==◌, ◌<◌, ℕ, ◌+◌, ◌-◌, ◌*◌, ◌^◌, Bool, true, false, List, [], ◌∷◌, drop, inl, inr, min, if◌then◌else◌}
 use Rattle.std.proofs.lemmas.Bool.{cases_Bool, cond-false, cond-true, le-leb, leb-false, leb-true, lt-leb}
-use Rattle.rx_parser.proofs.Common.{is_decimal_digit, CodePoint, values, digits, digits_after, run_number, chosen}
+use Rattle.rx_model.specs.Quantifiers.CountsReading.{counts_read, fitting, no_counts_read, read_after_comma}
+use Rattle.rx_model.specs.Reading.Fronts.{counts, counts_after_comma, greatest_of, no_counts}
+use Rattle.rx_parser.proofs.Common.{is_decimal_digit, CodePoint, values, are_counts, digits, digits_after, run_number, chosen, starts, values_drop}
 
 -- The digits before a place are read, and their number stands still at the greatest of 32 bits.
 pub record NumberRead (us : List CodePoint) (found count : ℕ) : Type 0 where
@@ -23,3 +25,23 @@ least_number n found limit h l = elim (cases_Bool (nat_le n limit)) [
   | inl k ↦ let small = leb-true n limit k in le-leb found limit (omega (arith, h, l, small)) ∙ sym k
   | inr k ↦ let large = leb-false n limit k in lt-leb found limit (omega (arith, h, l, large)) ∙ sym k
 ]
+
+-- Counts are read after a number and a comma where `}` stands after the digits.
+module _ (n count m more : ℕ) (us : List CodePoint) where
+  pub counts_closed : are_counts (counts_after_comma n count (digits m more (values (drop more us)))) ≡ starts 125 (drop more (values us))
+  counts_closed = rw (values_drop more us) (closed (drop more (values us)))
+    where
+      by : (b : Bool) → are_counts (if b then counts n (greatest_of more m) (count + more + 3) else no_counts) ≡ b
+      by true = refl
+      by false = refl
+
+      closed : (w : List ℕ) → are_counts (counts_after_comma n count (digits m more w)) ≡ starts 125 w
+      closed [] = refl
+      closed (c ∷ w) = by (c == 125)
+
+  pub read_closed : read_after_comma n count (fitting m more (values (drop more us))) ≡ (if starts 125 (drop more (values us)) then counts_read n (greatest_of more m) (count + more + 3) else no_counts_read)
+  read_closed = rw (values_drop more us) (closed (drop more (values us)))
+    where
+      closed : (w : List ℕ) → read_after_comma n count (fitting m more w) ≡ (if starts 125 w then counts_read n (greatest_of more m) (count + more + 3) else no_counts_read)
+      closed [] = refl
+      closed (c ∷ w) = refl

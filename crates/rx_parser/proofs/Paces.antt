@@ -1,26 +1,42 @@
 -- How many units at the front stand for themselves, and how many are digits.
-use Rattle.std.proofs.Common.{◌≡◌, ◌∙◌, refl, ap, sym, subst, ℕ, zero, suc, ◌+◌, ◌-◌, ◌<◌, ◌≤◌, Bool, true, false, not, inl, inr, List, [], ◌∷◌, length, drop, take, get_or, arith}
-use Rattle.rx_parser.proofs.Common.{cases_Bool, cond-false, cond-true, nat_tests, is_decimal_digit, is_syntax_character, CodePoint, digit_run, plain}
-use Rattle.std.proofs.lemmas.List.{take_all}
+use Rattle.std.proofs.Common.{◌≡◌, ◌∙◌, refl, ap, sym, subst, ℕ, zero, suc, ◌+◌, ◌-◌, ◌<◌, ◌≤◌, Bool, true, false, cond, not, inl, inr, Some, List, [], ◌∷◌, length, drop, get_or, arith}
+use Rattle.rx_parser.proofs.Common.{cases_Bool, cond-false, cond-true, nat_tests, is_decimal_digit, is_syntax_character, CodePoint, values, digit_run, plain}
+use Rattle.rx_units.specs.Cursor.{front}
 use Rattle.std.proofs.lemmas.List.Sums.{prefix_len-drop_all, prefix_len-drop_no, prefix_len-drop_yes, prefix_len-le-length}
 use Rattle.std.specs.List.{prefix_len}
 
--- digits from a place on
-pub run_more : (us : List CodePoint) (i : ℕ) (d : CodePoint) → i < length us → is_decimal_digit (get_or us i d).value ≡ true → digit_run (drop i us) ≡ 1 + digit_run (drop (i + 1) us)
-unfolding digit_run
-run_more us i d inside digit = prefix_len-drop_yes (λ (u : CodePoint). is_decimal_digit u.value) us i d inside digit
+-- A run of units is one of their values.
+run_values : (p : ℕ → Bool) (us : List CodePoint) → prefix_len (λ (u : CodePoint). p u.value) us ≡ prefix_len p (values us)
+run_values p [] = refl
+run_values p (u ∷ us) = ap (λ n. cond (p u.value) (1 + n) 0) (run_values p us)
 
-pub run_stops : (us : List CodePoint) (i : ℕ) (d : CodePoint) → i < length us → is_decimal_digit (get_or us i d).value ≡ false → digit_run (drop i us) ≡ 0
+digit_values : (us : List CodePoint) → digit_run us ≡ prefix_len is_decimal_digit (values us)
 unfolding digit_run
-run_stops us i d inside other = prefix_len-drop_no (λ (u : CodePoint). is_decimal_digit u.value) us i d inside other
+digit_values us = run_values is_decimal_digit us
+
+plain_values : (us : List CodePoint) → plain us ≡ prefix_len (λ c. not (is_syntax_character c)) (values us)
+unfolding plain
+plain_values us = run_values (λ c. not (is_syntax_character c)) us
+
+pub plain_same : (us vs : List CodePoint) → values us ≡ values vs → plain us ≡ plain vs
+plain_same us vs same = plain_values us ∙ ap (prefix_len (λ c. not (is_syntax_character c))) same ∙ sym (plain_values vs)
+
+-- a digit, and those after it
+pub run_more : (us vs : List CodePoint) (c : ℕ) → values us ≡ c ∷ values vs → is_decimal_digit c ≡ true → digit_run us ≡ 1 + digit_run vs
+run_more us vs c whole digit =
+    digit_values us ∙ ap (prefix_len is_decimal_digit) whole ∙ cond-true (is_decimal_digit c) _ _ digit ∙ ap (λ n. 1 + n) (sym (digit_values vs))
+
+pub run_stops : (us : List CodePoint) (c : ℕ) (w : List ℕ) → values us ≡ c ∷ w → is_decimal_digit c ≡ false → digit_run us ≡ 0
+run_stops us c w whole other = digit_values us ∙ ap (prefix_len is_decimal_digit) whole ∙ cond-false (is_decimal_digit c) _ _ other
 
 pub run_ends : (us : List CodePoint) (i : ℕ) → length us ≤ i → digit_run (drop i us) ≡ 0
 unfolding digit_run
 run_ends us i end = prefix_len-drop_all (λ (u : CodePoint). is_decimal_digit u.value) us i end
 
 -- a digit stands first
-pub run_begins : (us : List CodePoint) (d : CodePoint) → 1 ≤ length us → is_decimal_digit (get_or us 0 d).value ≡ true → 1 ≤ digit_run us
-run_begins us d some digit = omega (arith, run_more us 0 d (omega arith) digit)
+pub run_begins : (us : List CodePoint) (c : ℕ) → front us ≡ Some c → is_decimal_digit c ≡ true → 1 ≤ digit_run us
+run_begins [] c is digit = absurd (let no : ⊥ = cc is in no)
+run_begins (u ∷ us) c is digit = let same : u.value ≡ c = cc is in omega (arith, run_more (u ∷ us) us u.value refl (ap is_decimal_digit same ∙ digit))
 
 -- units that stand for themselves from a place on
 pub plain_next : (us : List CodePoint) (i : ℕ) (d : CodePoint) → i < length us → is_syntax_character (get_or us i d).value ≡ false → plain (drop i us) ≡ 1 + plain (drop (i + 1) us)
@@ -43,18 +59,9 @@ pub run_within : (us : List CodePoint) → digit_run us ≤ length us
 unfolding digit_run
 run_within us = prefix_len-le-length (λ (u : CodePoint). is_decimal_digit u.value) us
 
--- the units after the first
-pub after_first : (us : List CodePoint) → take (length us - 1) (drop 1 us) ≡ drop 1 us
-after_first [] = refl
-after_first (u ∷ us) = take_all (length (u ∷ us) - 1) us (omega arith)
-
--- a unit that stands for itself, and those after it
-first_plain : (us : List CodePoint) (d : CodePoint) → 1 ≤ length us → is_syntax_character (get_or us 0 d).value ≡ false → plain us ≡ 1 + plain (drop 1 us)
-first_plain us d some here = plain_next us 0 d (omega arith) here
-
--- a comma is one
-pub comma_plain : (us : List CodePoint) (d : CodePoint) → 1 ≤ length us → (get_or us 0 d).value ≡ 44 → plain us ≡ 1 + plain (take (length us - 1) (drop 1 us))
-comma_plain us d some is = first_plain us d some (ap is_syntax_character is) ∙ ap (λ ws. 1 + plain ws) (sym (after_first us))
+-- a comma stands for itself
+pub comma_plain : (us vs : List CodePoint) → values us ≡ 44 ∷ values vs → plain us ≡ 1 + plain vs
+comma_plain us vs whole = plain_values us ∙ ap (prefix_len (λ c. not (is_syntax_character c))) whole ∙ ap (λ n. 1 + n) (sym (plain_values vs))
 
 -- a run reaches at most so many units on, and what runs from there
 reach : (p : CodePoint → Bool) (us : List CodePoint) (n : ℕ) → prefix_len p us ≤ n + prefix_len p (drop n us)

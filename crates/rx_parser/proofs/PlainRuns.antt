@@ -1,9 +1,12 @@
 -- A run of units that stand for themselves moves a parse on.
-use Rattle.std.proofs.Common.{◌≡◌, refl, ap, sym, ◌∙◌, subst, ℕ, ◌+◌, ◌-◌, ◌<◌, ◌≤◌, ◌||◌, false, List, length, drop, take, get_or, arith, length-drop, length-take, All, min}
-use Rattle.std.proofs.lemmas.List.{drop-drop, get_or-drop, get_or-take, get_or_default, take_more}
-use Rattle.rx_parser.proofs.Common.{All-drop, All-get_or, All-push, Term, mirror_term, is_syntax_character, CodePoint, Cursor, move_on, offset_of, rest, offset_at, has_some, text_environment, text_names, term_events, takes, character, Builder, Leaf, IsFound, openers, IsParsing, IsLeafOf, IsBefore}
+use Rattle.std.proofs.Common.{◌≡◌, refl, ap, sym, ◌∙◌, subst, ℕ, ◌+◌, ◌-◌, ◌^◌, ◌<◌, ◌≤◌, ◌||◌, false, Some, List, [], ◌∷◌, length, drop, take, get_or, arith, length-drop, All, min}
+use Rattle.std.proofs.lemmas.List.{drop-drop, get_or-drop, get_or-map, get_or-take, take_more}
+use Rattle.std.proofs.lemmas.List.Elements.{All-head, All-take}
+use Rattle.rx_parser.proofs.Common.{All-drop, All-push, AreFitting, offset_fits, Term, mirror_term, is_syntax_character, CodePoint, Cursor, move_on, offset_of, rest, offset_at, values, has_some, text_environment, text_names, term_events, takes, character, Builder, Leaf, IsFound, openers, IsParsing, IsLeafOf, IsBefore}
 use Rattle.rx_parser.proofs.Common.{IsTurned, unit_kind, Character}
-use Rattle.rx_units.proofs.Offsets.{end_of_take}
+use Rattle.rx_units.proofs.Offsets.{end_of_take, offset_more}
+use Rattle.rx_units.specs.Cursor.{front}
+use Rattle.rx_units.specs.Stored.{values_of}
 use Rattle.rx_parser.proofs.FrontFound.{plain_found}
 use Rattle.rx_parser.proofs.Steps.{Grows}
 use Rattle.rx_parser.proofs.Turns.{leaf_turned, passed}
@@ -34,15 +37,42 @@ plain_more us i d inside plain here =
     let P : CodePoint → Type 0 = λ (u : CodePoint). is_syntax_character u.value ≡ false in
     subst (All P) (sym (take_more us i d inside)) (All-push P (take i us) (get_or us i d) plain here)
 
--- the unit at an index of a run of units that are left
-module _ (r : Cursor) (us : List CodePoint) (count i : ℕ) (d : CodePoint) (left : us ≡ rest r) (inside : i < count) (within : count ≤ length us) where
-  pub unit_is : get_or (take count us) i d ≡ get_or (rest r) i (get_or (take count us) i d)
-  unit_is = get_or-take count us i d inside ∙ get_or_default us i d _ (omega (arith, inside, within)) ∙ ap (λ ws. get_or ws i (get_or (take count us) i d)) left
+-- the value of a unit, by the item that it is
+pub unit_value : {Item : Type 0} (value : Item → ℕ) (us : List CodePoint) (xs : List Item) (i : ℕ) (u : CodePoint) (x : Item) → values us ≡ values_of value xs → length us ≡ length xs → i < length xs
+    → (get_or us i u).value ≡ value (get_or xs i x)
+unit_value value us xs i u x same long inside =
+    sym (get_or-map (λ (u : CodePoint). u.value) us i u u.value (omega (arith, inside, long))) ∙ ap (λ ws. get_or ws i u.value) same ∙ get_or-map value xs i x u.value inside
 
-  pub unit_plain : All (λ (u : CodePoint). is_syntax_character u.value ≡ false) (take count (rest r)) → is_syntax_character (get_or (take count us) i d).value ≡ false
+-- the unit that stands first of what is left of a run
+pub first_unit : (us : List CodePoint) (c : ℕ) → front us ≡ Some c → (u : CodePoint) × (more : List CodePoint) × (us ≡ u ∷ more) × (c ≡ u.value)
+first_unit [] c h = absurd (let no : ⊥ = cc h in no)
+first_unit (u ∷ more) c h = (u, more, refl, cc h)
+
+-- it ends where an offset fits
+pub first_fits : {added : ℕ} {r : Cursor} (count i : ℕ) {left : List CodePoint} {end c : ℕ} → AreFitting added r → left ≡ drop i (take count (rest r)) → front left ≡ Some c → ((first : ℕ) → end ≡ offset_at first left 1) → end + added < 2 ^ 32
+first_fits {added} {r} count i {left} {end} {c} fits here some ends =
+    let P : CodePoint → Type 0 = λ (u : CodePoint). u.span.end + added < 2 ^ 32 in
+    let first = first_unit left c some in
+    let all = All-drop P i (take count (rest r)) (All-take P count (rest r) (All-drop P r.place r.units fits.ends)) in
+    subst (λ k. k + added < 2 ^ 32) (sym (ends 0 ∙ ap (λ us. offset_at 0 us 1) first.2)) (All-head P first.0 first.1 (subst (All P) (sym here ∙ first.2) all))
+
+module _ (us : List CodePoint) (count i : ℕ) (u : CodePoint) (more : List CodePoint) (left : drop i (take count us) ≡ u ∷ more) (inside : i < count) where
+  pub unit_is : u ≡ get_or us i u
+  unit_is =
+      let first : i + 0 ≡ i = omega arith in
+      sym (ap (λ ws. get_or ws 0 u) left) ∙ get_or-drop i (take count us) 0 u ∙ ap (λ n. get_or (take count us) n u) first ∙ get_or-take count us i u inside
+
+  pub unit_plain : All (λ (u : CodePoint). is_syntax_character u.value ≡ false) (take count us) → is_syntax_character u.value ≡ false
   unit_plain plain =
-      All-get_or (λ (u : CodePoint). is_syntax_character u.value ≡ false) (take count us) i d (omega (arith, inside, within, length-take count us))
-      (subst (λ ws. All (λ (u : CodePoint). is_syntax_character u.value ≡ false) (take count ws)) (sym left) plain)
+      let P : CodePoint → Type 0 = λ (u : CodePoint). is_syntax_character u.value ≡ false in
+      All-head P u more (subst (All P) left (All-drop P i (take count us) plain))
+
+-- the end of units that are left
+pub end_ahead : (r : Cursor) (n : ℕ) {us : List CodePoint} {end : ℕ} → us ≡ rest r → ((first : ℕ) → end ≡ offset_at first us n) → end ≡ offset_at r.first r.units (r.place + n)
+end_ahead r n here ends = ends (offset_of r) ∙ ap (λ us. offset_at (offset_of r) us n) here ∙ sym (offset_more r.first r.units r.place n)
+
+pub end_fits : {added : ℕ} {r : Cursor} (n : ℕ) {us : List CodePoint} {end : ℕ} → AreFitting added r → us ≡ rest r → ((first : ℕ) → end ≡ offset_at first us n) → end + added < 2 ^ 32
+end_fits {added} {r} n fits here ends = subst (λ k. k + added < 2 ^ 32) (sym (end_ahead r n here ends)) (offset_fits added r.first r.units (r.place + n) fits.first fits.ends)
 
 -- a unit ends where the next begins
 pub unit_end : (r : Cursor) (i : ℕ) (u : CodePoint) → i < length (rest r) → u ≡ get_or (rest r) i u → u.span.end ≡ offset_at r.first r.units (r.place + (i + 1))

@@ -30,7 +30,7 @@ module _ (from to : Cursor) (n old mid new : ℕ) where
       (omega (arith, first.0, least), omega (arith, first.1, more, seam, gone, some))
 
 -- after a turn fewer units are left
-left_less : {p q : Parse} → HasTurned p q → units_left q.reader < units_left p.reader
+left_less : {S U : Type 0} {p q : Parse S U} → HasTurned p q → units_left q.reader < units_left p.reader
 left_less {p} {q} h =
     omega (
       arith,
@@ -42,13 +42,13 @@ left_less {p} {q} h =
     )
 
 -- a call that may turn, with a step for each unit that it moves over
-pub move_taken : {E : Type 0} (p q : Parse) (old new : ℕ) (result : Result Bool E) → MayTurn p q result → IsMove old new p.reader q.reader → MayTakeToken old new p.reader q.reader result
+pub move_taken : {S U E : Type 0} (p q : Parse S U) (old new : ℕ) (result : Result Bool E) → MayTurn p q result → IsMove old new p.reader q.reader → MayTakeToken old new p.reader q.reader result
 move_taken p q old new (Ok true) h moves = let less = left_less h in (omega (arith, moves), omega (arith, moves, less))
-move_taken p q old new (Ok false) h moves = omega (arith, moves, ap (λ (p : Parse). units_left p.reader) h)
+move_taken {S} {U} p q old new (Ok false) h moves = omega (arith, moves, ap (λ (p : Parse S U). units_left p.reader) h)
 move_taken p q old new (Err it) h moves = omega (arith, moves)
 
 -- what is found, and read
-module _ {A E : Type 0} {p : Parse} (more : HasMore p) (q : Parse) (old mid new : ℕ) where
+module _ {S U A E : Type 0} {p : Parse S U} (more : HasMore p) (q : Parse S U) (old mid new : ℕ) where
   token_taken : (n : ℕ) (result : Result A E) → n ≤ length (rest p.reader) → OnOk result (HasTurned p q) → Rises old mid 0 (token_looks (drop 1 (rest p.reader)) n)
       → MovesOver n mid new p.reader q.reader result → TakesToken old new p.reader q.reader result
   token_taken n (Ok it) within turned first h = token_paced p.reader q.reader n old mid new turned.moved h.0 within first h.1 h.2

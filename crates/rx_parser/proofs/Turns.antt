@@ -20,11 +20,11 @@ use Rattle.rx_parser.proofs.Refused.{cause_refused}
 use Rattle.rx_parser.proofs.Steps.{Grows, Quantifies, class_end, class_start, moves, quantifier_adds, repeats}
 
 -- what is asked of a builder and a reader alone
-pub before : {p : Parse} → HasMore p → IsBefore p.spans p.builder p.reader
+pub before : {S U : Type 0} {p : Parse S U} → HasMore p → IsBefore p.spans p.builder p.reader
 before h = record { parsing = h.under_way.parsing; left = h.left; fits = h.under_way.fits }
 
 -- A parse has turned where its builder and its reader have.
-pub has_turned : {p q : Parse} → HasMore p → IsTurned p.spans p.builder q.builder p.reader q.reader → q.state ≡ p.state → q.spans ≡ p.spans → HasTurned p q
+pub has_turned : {S U : Type 0} {p q : Parse S U} → HasMore p → IsTurned p.spans p.builder q.builder p.reader q.reader → q.state ≡ p.state → q.spans ≡ p.spans → HasTurned p q
 has_turned {p} {q} h t state_is spans_is =
     let it = h.under_way in
     let units_are = ap (λ (r : Cursor). r.units) t.same in

@@ -10,5 +10,5 @@ abbrev pub modifier_bit : ℕ → Option ℕ
 modifier_bit c = if c == ascii.i then Some 1 else (if c == ascii.m then Some 2 else (if c == ascii.s then Some 4 else None))
 
 -- an answer, as what the definitions read there
-abbrev pub seen_sides : Sides → SidesRead
-seen_sides s = sides (values s.enabling.now) (values s.disabling.now) s.length
+abbrev pub seen_sides : {U : Type 0} → Sides U → SidesRead
+seen_sides s = sides (values s.enabling) (values s.disabling) s.length

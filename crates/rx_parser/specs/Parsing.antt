@@ -61,5 +61,5 @@ pub record AnswersUnits (mode : Mode) (rules : Rules) (us : List CodePoint) (fir
   pub complete : (p : Pattern) → Reads mode rules p us → IfErr answer (λ fault. fault ≡ OutOfMemory)
 
 -- What a parser may answer to the units of its reader, in its mode and under its rules.
-abbrev pub AnswersParser : PatternParser → Result Pattern Fault → Type 0
+abbrev pub AnswersParser : {S U : Type 0} → PatternParser S U → Result Pattern Fault → Type 0
 AnswersParser it answer = AnswersUnits (mode_of_state it.state) (rules_of_state it.state it.buffer_boundaries) it.reader.units it.reader.first it.spans answer

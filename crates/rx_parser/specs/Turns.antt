@@ -15,36 +15,36 @@ use Rattle.rx_parser.specs.Found.{IsFound}
 use Rattle.rx_parser.specs.Parsing.{HoldsPass, IsParsing, IsRefused}
 
 -- what no turn changes: the mode, the rules, the units and the offset of the first, what is added to each offset, and the state
-abbrev pub fixed_parts : Parse → Mode × Rules × List CodePoint × ℕ × ℕ × State
+abbrev pub fixed_parts : {S U : Type 0} → Parse S U → Mode × Rules × List CodePoint × ℕ × ℕ × State
 fixed_parts p = (p.builder.mode, p.builder.rules, p.reader.units, p.reader.first, p.spans, p.state)
 
 -- The builder holds what stands before the reader, whose offsets fit 32 bits, and the state has what the first pass over the units finds.
-pub record IsUnderWay (p : Parse) : Type 0 where
+pub record IsUnderWay {S U : Type 0} (p : Parse S U) : Type 0 where
   pub parsing : IsParsing p.builder.mode p.builder.rules p.reader.units p.reader.first p.spans p.builder p.reader.place
   pub fits : AreFitting p.spans p.reader
   pub pass : HoldsPass p.builder.mode p.builder.rules p.reader.units p.state
 
 -- The same, and something is left of the text.
-pub record HasMore (p : Parse) : Type 0 where
+pub record HasMore {S U : Type 0} (p : Parse S U) : Type 0 where
   pub under_way : IsUnderWay p
   pub left : p.reader.place < length p.reader.units
 
 -- This stands where the reader does.
-abbrev pub StandsNext : Parse → Found → Type 0
+abbrev pub StandsNext : {S U : Type 0} → Parse S U → Found → Type 0
 StandsNext p it = IsFound (text_environment p.builder.mode p.builder.rules p.reader.units) (rest p.reader) it
 
 -- The reader and the builder have moved on.
-pub record HasTurned (p q : Parse) : Type 0 where
+pub record HasTurned {S U : Type 0} (p q : Parse S U) : Type 0 where
   pub under_way : IsUnderWay q
   pub kept : fixed_parts q ≡ fixed_parts p
   pub moved : p.reader.place < q.reader.place
 
 -- Where it answers `true` the parse has turned, and where it answers `false` nothing has changed.
-abbrev pub MayTurn : {E : Type 0} → Parse → Parse → Result Bool E → Type 0
+abbrev pub MayTurn : {S U E : Type 0} → Parse S U → Parse S U → Result Bool E → Type 0
 MayTurn p q result = IfOk result (λ it. MatchBool it (HasTurned p q) (q ≡ p))
 
 -- memory ran out, or the text is refused by its first refusal
-abbrev pub RefusesText : Parse → Fault → Type 0
+abbrev pub RefusesText : {S U : Type 0} → Parse S U → Fault → Type 0
 RefusesText p it = IsRefused p.builder.mode p.builder.rules p.reader.units p.reader.first p.spans it
 
 -- The same of a builder and a reader alone: something is left of the text, and the builder holds what stands before it;

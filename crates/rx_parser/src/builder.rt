@@ -188,6 +188,7 @@ impl Builder {
     }
 
     /// The pattern, which ends before the byte `at`.
+    #[inline(always)]
     pub fn finish(self, at: u32) -> Result<Pattern, OutOfMemory>
         requires { openers self ≡ [] }
         ensures events { IfOk result (λ it. events it ≡ builder_events self ++ (leave at ∷ leave at ∷ leave at ∷ [])) }

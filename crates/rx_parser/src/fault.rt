@@ -13,11 +13,15 @@ use crate::turn::Parse;
 use rx_base::{Counter, Diagnostic, DigitsKind, Fault, Span, Unterminated};
 use rx_model::Mode;
 use rx_scan::SpanFactory;
-use rx_units::Reader;
+use rx_units::{Reader, UnitSource};
 
 /// The fault of a halt where the reader stands.
 #[cold]
-pub fn fault<C: Counter>(parse: &mut Parse<'_>, halt: Halt, steps: &mut C) -> Fault
+pub fn fault<S: UnitSource, C: Counter>(
+    parse: &mut Parse<'_, S>,
+    halt: Halt,
+    steps: &mut C,
+) -> Fault
     requires small { IsSmall halt }
     requires more { HasMore parse.old }
     ensures fault { IsHaltFault parse.old.reader.units parse.old.reader.first parse.old.spans parse.old.reader.place parse.old.builder parse.old.state.num_of_capturing_groups halt result }
@@ -107,7 +111,11 @@ fn modifiers_fault(fault: ModifiersFault, span: Span) -> Diagnostic
 
 /// The fault where terms end at the reader's place, and neither a group nor the pattern ends there.
 #[cold]
-pub fn fault_at_end(reader: &Reader<'_>, spans: &SpanFactory, builder: &Builder) -> Fault
+pub fn fault_at_end<S: UnitSource>(
+    reader: &Reader<'_, S>,
+    spans: &SpanFactory,
+    builder: &Builder,
+) -> Fault
     requires fits { AreFitting spans.now reader.now }
     ensures { IsEndedFault reader.now.units reader.now.first spans.now reader.now.place builder.now result }
 {
@@ -126,7 +134,7 @@ pub fn fault_at_end(reader: &Reader<'_>, spans: &SpanFactory, builder: &Builder)
 
 /// The offset where the reader stands, with the offset of the spans added.
 #[inline]
-pub fn here(reader: &Reader<'_>, spans: &SpanFactory) -> u32
+pub fn here<S: UnitSource>(reader: &Reader<'_, S>, spans: &SpanFactory) -> u32
     requires fits { AreFitting spans.now reader.now }
     ensures { result ≡ offset_of reader.now + spans.now }
 {
@@ -135,8 +143,8 @@ pub fn here(reader: &Reader<'_>, spans: &SpanFactory) -> u32
 }
 
 /// The span from one place ahead to another, in units from where the reader stands. The reader stays there.
-pub fn span_ahead<C: Counter>(
-    reader: &mut Reader<'_>,
+pub fn span_ahead<S: UnitSource, C: Counter>(
+    reader: &mut Reader<'_, S>,
     spans: &SpanFactory,
     from: usize,
     to: usize,

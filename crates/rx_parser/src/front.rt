@@ -26,42 +26,46 @@ use rx_class::{EscapeFound, any_escape_at, class_escape_at, common_escape_at, un
 use rx_model::Mode;
 use rx_scan::Environment;
 use rx_tables::is_syntax_character;
-use rx_units::CodePoint;
+use rx_units::{Ahead, Unit};
 
 /// What the units begin with, outside classes (Term of ECMA-262, 22.2.1, and of B.1.2, or `)` or `|`).
 // Why: docs/DECISIONS.md, 17.
 #[tactic(auto, unfolding(rx_model::specs::Reading::FrontReading::front_read))]
-pub fn front_at<C: Counter>(units: &[CodePoint], environment: Environment, steps: &mut C) -> Found
+pub fn front_at<U: Unit, C: Counter>(
+    units: &Ahead<'_, U>,
+    environment: Environment,
+    steps: &mut C,
+) -> Found
     requires few { environment.groups < 2 ^ 32 - 1 }
     ensures found { result ≡ found_front (front_read (seen_environment environment) units.now) }
     ensures steps { Rises (C.count steps.old) (C.count steps.new) 0 (looks (drop 1 units.now) result) }
 {
-    let [first, following @ ..] = units else {
+    let Some((first, following)) = units.split_first() else {
         return Found::Halt(Halt::Stop { following: 0 });
     };
-    if first.value == '\\' as u32 {
-        return backslash_at(following, environment, steps);
+    if first == '\\' as u32 {
+        return backslash_at(&following, environment, steps);
     }
-    if first.value == '[' as u32 {
+    if first == '[' as u32 {
         return Found::Class;
     }
-    if is_raw(first.value, following, units, environment, steps) {
+    if is_raw(first, &following, units, environment, steps) {
         return Found::Leaf {
             leaf: Leaf::Character {
-                kind: unit_kind(first.escape_kind),
-                value: first.value,
+                kind: unit_kind(units.escape_kind()),
+                value: first,
             },
             length: 1,
         };
     }
-    syntax_at(first.value, following, units, environment, steps)
+    syntax_at(first, &following, units, environment, steps)
 }
 
 /// Whether the first unit stands for itself. With neither `u` nor `v` a brace does, where no quantifier begins there.
-fn is_raw<C: Counter>(
+fn is_raw<U: Unit, C: Counter>(
     first: u32,
-    following: &[CodePoint],
-    units: &[CodePoint],
+    following: &Ahead<'_, U>,
+    units: &Ahead<'_, U>,
     environment: Environment,
     steps: &mut C,
 ) -> bool
@@ -94,10 +98,13 @@ fn is_legacy_syntax(value: u32) -> bool
 }
 
 /// The boundary that the unit after a backslash is (Assertion of ECMA-262, 22.2.1; regular expression buffer boundaries).
-fn boundary_at(following: &[CodePoint], environment: Environment) -> Option<BoundaryAssertionKind>
+fn boundary_at<U: Unit>(
+    following: &Ahead<'_, U>,
+    environment: Environment,
+) -> Option<BoundaryAssertionKind>
     ensures { result ≡ boundary_front (seen_environment environment) (values following.now) }
 {
-    match char::from_u32(following.first()?.value) {
+    match char::from_u32(following.first()?) {
         Some('b') => Some(BoundaryAssertionKind::Boundary),
         Some('B') => Some(BoundaryAssertionKind::NegativeBoundary),
         Some('A') if environment.has_buffers() => Some(BoundaryAssertionKind::StartBuffer),
@@ -114,20 +121,20 @@ fn boundary_at(following: &[CodePoint], environment: Environment) -> Option<Boun
 ///
 /// It counts no step. The caller that takes the leaf counts one for each unit past the second.
 #[inline(always)]
-pub fn common_leaf_at(units: &[CodePoint], unicode_mode: bool) -> Option<(Leaf, usize)>
+pub fn common_leaf_at<U: Unit>(units: &Ahead<'_, U>, unicode_mode: bool) -> Option<(Leaf, usize)>
     ensures { IfSome result (λ it. IsCommonLeaf unicode_mode units.now it.0 it.1) }
 {
-    let [_, following @ ..] = units else {
-        return None;
-    };
-    if let Some(it) = common_escape_at(following, unicode_mode) {
+    // Why: docs/DECISIONS.md, 131.
+    let _ = units.len();
+    let (_, following) = units.split_first()?;
+    if let Some(it) = common_escape_at(&following, unicode_mode) {
         let leaf = Leaf::Character {
             kind: it.kind,
             value: it.value,
         };
         return Some((leaf, it.length + 1));
     }
-    let leaf = match char::from_u32(following.first()?.value) {
+    let leaf = match char::from_u32(following.first()?) {
         Some('d') => Leaf::ClassEscape(CharacterClassEscapeKind::D),
         Some('D') => Leaf::ClassEscape(CharacterClassEscapeKind::NegativeD),
         Some('s') => Leaf::ClassEscape(CharacterClassEscapeKind::S),
@@ -142,8 +149,8 @@ pub fn common_leaf_at(units: &[CodePoint], unicode_mode: bool) -> Option<(Leaf, 
 }
 
 /// What a backslash and the units after it begin with (AtomEscape and Assertion of ECMA-262, 22.2.1).
-fn backslash_at<C: Counter>(
-    following: &[CodePoint],
+fn backslash_at<U: Unit, C: Counter>(
+    following: &Ahead<'_, U>,
     environment: Environment,
     steps: &mut C,
 ) -> Found
@@ -151,16 +158,16 @@ fn backslash_at<C: Counter>(
     ensures found { result ≡ found_front (backslash_read (seen_environment environment) (values following.now)) }
     ensures steps { Rises (C.count steps.old) (C.count steps.new) 0 (looks following.now result) }
 {
-    let [first, more @ ..] = following else {
+    let Some((first, more)) = following.split_first() else {
         return Found::Halt(after_last_backslash(environment.mode));
     };
     if is_reference(following, environment, steps) {
         return indexed_reference(following, environment.groups, steps);
     }
-    if first.value == 'k' as u32 && environment.is_named() {
-        return named_reference(more, environment.is_unicode(), steps);
+    if first == 'k' as u32 && environment.is_named() {
+        return named_reference(&more, environment.is_unicode(), steps);
     }
-    if begins_property(first.value) && environment.is_unicode() {
+    if begins_property(first) && environment.is_unicode() {
         return Found::Property;
     }
     escape_at(following, environment, steps)
@@ -186,7 +193,11 @@ fn begins_property(value: u32) -> bool
 
 /// What a backslash and the units after it, which are neither a reference nor a property, begin with: an assertion, a class escape, or the escape of a
 /// character (AtomEscape of ECMA-262, 22.2.1 and B.1.2).
-fn escape_at<C: Counter>(following: &[CodePoint], environment: Environment, steps: &mut C) -> Found
+fn escape_at<U: Unit, C: Counter>(
+    following: &Ahead<'_, U>,
+    environment: Environment,
+    steps: &mut C,
+) -> Found
     ensures found { result ≡ found_front (one_of_escapes (boundary_front (seen_environment environment) (values following.now)) (class_escape_front (values following.now)) (any_escape_at false (seen_environment environment) (values following.now))) }
     ensures steps { LooksAtEscape (C.count steps.old) (C.count steps.new) following.now result }
 {
@@ -202,6 +213,8 @@ fn escape_at<C: Counter>(following: &[CodePoint], environment: Environment, step
             length: 2,
         };
     }
+    // Why: docs/DECISIONS.md, 131.
+    let _ = following.len();
     character(any_escape_at(following, false, environment, steps))
 }
 
@@ -231,10 +244,10 @@ fn character(escape: EscapeFound) -> Found
 }
 
 /// What the units begin with, whose first is neither a backslash nor `[` nor stands for itself (Atom, Assertion and Quantifier of ECMA-262, 22.2.1).
-fn syntax_at<C: Counter>(
+fn syntax_at<U: Unit, C: Counter>(
     first: u32,
-    following: &[CodePoint],
-    units: &[CodePoint],
+    following: &Ahead<'_, U>,
+    units: &Ahead<'_, U>,
     environment: Environment,
     steps: &mut C,
 ) -> Found
@@ -263,7 +276,7 @@ fn syntax_at<C: Counter>(
 }
 
 /// The quantifier that the units begin with (Quantifier of ECMA-262, 22.2.1).
-fn quantifier_at<C: Counter>(units: &[CodePoint], steps: &mut C) -> Found
+fn quantifier_at<U: Unit, C: Counter>(units: &Ahead<'_, U>, steps: &mut C) -> Found
     ensures found { result ≡ found_front (quantifier_read (counts_read_at (values units.now)) (values units.now)) }
     ensures steps { LooksAtSyntax (C.count steps.old) (C.count steps.new) (length units.now - 1) result }
 {
@@ -277,7 +290,7 @@ fn quantifier_at<C: Counter>(units: &[CodePoint], steps: &mut C) -> Found
 }
 
 /// The quantifier of these counts, in n units; or why they may not stand in braces.
-fn quantifier(units: &[CodePoint], min: u64, max: Option<u64>, length: usize) -> Found
+fn quantifier<U: Unit>(units: &Ahead<'_, U>, min: u64, max: Option<u64>, length: usize) -> Found
     ensures found { result ≡ found_front (quantifier_read (counts_read min max length) (values units.now)) }
     ensures looks { MayFind length units.now result }
 {
@@ -287,6 +300,8 @@ fn quantifier(units: &[CodePoint], min: u64, max: Option<u64>, length: usize) ->
     if is_too_large(min, max) {
         return Found::Halt(Halt::TooLarge { length });
     }
+    // Why: docs/DECISIONS.md, 131.
+    let _ = units.len();
     if stands_at(units, length, '?') {
         return Found::Quantifier {
             min,

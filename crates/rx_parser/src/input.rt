@@ -10,7 +10,7 @@ use rx_ast::Pattern;
 use rx_base::{Diagnostic, Fault, OutOfMemory};
 use rx_model::{Form, Mode};
 use rx_scan::{FlagsParser, SpanFactory};
-use rx_units::{Reader, ReaderFault};
+use rx_units::{Reader, ReaderFault, UnitSource};
 use std::alloc::Global;
 
 /// What a reader of patterns is given: the text of a pattern and its flags, in a form, in which both texts may have quotes. The flags text is absent where
@@ -37,17 +37,37 @@ impl<'a> Input<'a> {
     ghost use Rattle.rx_parser.specs.Texts.{GivesUnits, StandsBefore, seen_input};
 
     /// Reads the pattern: the flags first, and then the text in the mode that they ask for (RegExpInitialize, ECMA-262, 22.2.3.3).
+    // Why: docs/DECISIONS.md, 130.
     pub fn parse(&self, alloc: Global) -> Result<(Pattern, Mode), Fault>
         // Ok on valid input and on no other, with the only tree; else the first refusal, or out of memory.
         ensures answered { IsParsed (λ it. it.0) (seen_input self.now) result }
         ensures mode { IfOk result (λ it. AsksFor (seen_input self.now) it.1) }
     {
         let mode = self.mode(alloc)?;
+        let text = self.text();
+        if matches!(self.form, Form::Literal) && text.is_ascii() {
+            return Ok((self.parse_units(alloc, Reader::of_ascii(text), mode)?, mode));
+        }
         let reader = self.pattern_reader(alloc, mode)?;
+        Ok((self.parse_units(alloc, reader, mode)?, mode))
+    }
+
+    /// The pattern that the units of a reader spell in a mode, or why they spell none.
+    fn parse_units<S: UnitSource + 'a>(
+        &self,
+        alloc: Global,
+        reader: Reader<'a, S>,
+        mode: Mode,
+    ) -> Result<Pattern, Fault>
+        requires units { Asks (seen_input self.now) mode reader.units }
+        requires start { reader.place ≡ 0 }
+        requires first { reader.first ≡ first_offset self.now.form }
+        requires fits { AreFitting self.now.options.pattern_span_offset reader }
+        ensures { IsParsed (λ p. p) (seen_input self.now) result }
+    {
         let rules = (self.options.duplicate_names, self.options.buffer_boundaries);
         let span_offset = self.options.pattern_span_offset;
-        let parser = PatternParser::new(alloc, reader, mode_flags(mode), span_offset, rules);
-        Ok((parser.parse()?, mode))
+        PatternParser::new(alloc, reader, mode_flags(mode), span_offset, rules).parse()
     }
 
     /// The mode that the flags ask for. No flags text asks for legacy mode. Flags are read by code points, before any mode is known.

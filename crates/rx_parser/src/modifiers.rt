@@ -14,28 +14,30 @@ use crate::ahead::stands_at;
 use crate::found::{Found, Halt, ModifiersFault, OpenerFound};
 use rx_ast::Modifier;
 use rx_base::Counter;
-use rx_units::{CodePoint, tail};
+use rx_units::{Ahead, Unit};
 
 /// The two sides of modifiers (RegularExpressionModifiers of ECMA-262, 22.2.1) that stand next, and how many units both are, a `-` among them.
-#[derive(Clone, Copy)]
-struct Sides<'a> {
-    enabling: &'a [CodePoint],
-    disabling: &'a [CodePoint],
+#[derive(Drop)]
+struct Sides<'a, U: Unit> {
+    enabling: Ahead<'a, U>,
+    disabling: Ahead<'a, U>,
     length: usize,
 }
 
 /// The group that `(?` and the modifiers after it begin (Atom of ECMA-262, 22.2.1); or why they may not stand there.
-pub fn modifiers_at<C: Counter>(units: &[CodePoint], steps: &mut C) -> Found
+pub fn modifiers_at<U: Unit, C: Counter>(units: &Ahead<'_, U>, steps: &mut C) -> Found
     ensures found { result ≡ found_front (modified_read (modifiers_read_at (values units.now))) }
     ensures steps { LooksAtSyntax (C.count steps.old) (C.count steps.new) (length units.now) result }
 {
+    // Why: docs/DECISIONS.md, 131.
+    let _ = units.len();
     let sides = sides_at(units, steps);
     if !stands_at(units, sides.length, ':') {
         return halt(ModifiersFault::Unknown, sides.length);
     }
     modified(
-        bits_of(sides.enabling, steps),
-        bits_of(sides.disabling, steps),
+        bits_of(&sides.enabling, steps),
+        bits_of(&sides.disabling, steps),
         sides.length,
     )
 }
@@ -70,39 +72,42 @@ fn halt(fault: ModifiersFault, length: usize) -> Found
 }
 
 /// The modifiers that the units begin with (RegularExpressionModifiers of ECMA-262, 22.2.1).
-fn sides_at<'a, C: Counter>(units: &'a [CodePoint], steps: &mut C) -> Sides<'a>
+fn sides_at<'a, U: Unit, C: Counter>(units: &Ahead<'a, U>, steps: &mut C) -> Sides<'a, U>
     ensures sides { seen_sides result ≡ sides_at (values units.now) }
     ensures within { result.length ≤ length units.now }
-    ensures parts { length result.enabling.now + length result.disabling.now ≤ result.length }
+    ensures parts { length result.enabling + length result.disabling ≤ result.length }
     ensures steps { Rises (C.count steps.old) (C.count steps.new) 0 (result.length + 1) }
 {
+    // Why: docs/DECISIONS.md, 131.
+    let _ = units.len();
     let count = letters_at(units, steps);
-    let enabling = &units[..count];
+    let enabling = units.front(count);
     if !stands_at(units, count, '-') {
         return Sides {
             enabling,
-            disabling: &[],
+            disabling: units.front(0),
             length: count,
         };
     }
-    let following = tail(units, count + 1);
-    let more = letters_at(following, steps);
+    let following = units.from(count + 1);
+    let more = letters_at(&following, steps);
     Sides {
         enabling,
-        disabling: &following[..more],
+        disabling: following.front(more),
         length: count + 1 + more,
     }
 }
 
 /// How many letters of modifiers the units begin with.
-fn letters_at<C: Counter>(units: &[CodePoint], steps: &mut C) -> usize
+fn letters_at<U: Unit, C: Counter>(units: &Ahead<'_, U>, steps: &mut C) -> usize
     ensures letters { result ≡ letters_at (values units.now) }
     ensures within { result ≤ length units.now }
     ensures steps { Rises (C.count steps.old) (C.count steps.new) result (result + 1) }
 {
-    for (count, unit) in units.iter().enumerate() {
+    let items = units.items();
+    for (count, unit) in items.iter().enumerate() {
         steps.tick();
-        if modifier_of(unit.value).is_none() {
+        if modifier_of(unit.value()).is_none() {
             return count;
         }
     }
@@ -110,15 +115,16 @@ fn letters_at<C: Counter>(units: &[CodePoint], steps: &mut C) -> usize
 }
 
 /// The bits of letters, or none where one is there twice.
-fn bits_of<C: Counter>(letters: &[CodePoint], steps: &mut C) -> Option<Modifier>
+fn bits_of<U: Unit, C: Counter>(letters: &Ahead<'_, U>, steps: &mut C) -> Option<Modifier>
     requires { list_all is_modifier (values letters.now) ≡ true }
     ensures bits { option_map (λ it. it.0) result ≡ are_bits (values letters.now) }
     ensures steps { MatchOption result (Rises (C.count steps.old) (C.count steps.new) 1 (length letters.now)) (λ _. C.count steps.new ≡ C.count steps.old + length letters.now) }
 {
     let mut bits = Modifier::empty();
-    for letter in letters {
+    let items = letters.items();
+    for letter in items {
         steps.tick();
-        let bit = modifier_of(letter.value)?;
+        let bit = modifier_of(letter.value())?;
         if bits.contains(bit) {
             return None;
         }

@@ -13,7 +13,7 @@ ghost use Rattle.rx_parser.specs.declared.name.NameFound.{NameFound};
 use crate::found::Halt;
 use rx_base::{Counter, is_lead_surrogate, is_trail_surrogate};
 use rx_scan::{UnicodeEscape, decode_counted, group_name_length_counted};
-use rx_units::{CodePoint, tail};
+use rx_units::{Ahead, Unit};
 
 /// What stands after `(?<` or `\k<`.
 #[derive(Clone, Copy, Debug)]
@@ -25,19 +25,25 @@ pub enum NameFound {
 }
 
 /// The name after `(?<` or `\k<` (GroupName of ECMA-262, 22.2.1), or why there is none.
-pub fn name_at<C: Counter>(units: &[CodePoint], unicode_mode: bool, steps: &mut C) -> NameFound
+pub fn name_at<U: Unit, C: Counter>(
+    units: &Ahead<'_, U>,
+    unicode_mode: bool,
+    steps: &mut C,
+) -> NameFound
     ensures read { result ≡ found_name (name_read_at unicode_mode (values units.now)) }
     ensures within { name_end result ≤ length units.now + 3 }
     ensures steps { Rises (C.count steps.old) (C.count steps.new) 0 (name_looks (length units.now) result) }
 {
+    // Why: docs/DECISIONS.md, 131.
+    let _ = units.len();
     let length = group_name_length_counted(units, unicode_mode, steps);
-    after_name(length, tail(units, length), unicode_mode, steps)
+    after_name(length, &units.from(length), unicode_mode, steps)
 }
 
 /// What stands after n units of a name.
-fn after_name<C: Counter>(
+fn after_name<U: Unit, C: Counter>(
     count: usize,
-    units: &[CodePoint],
+    units: &Ahead<'_, U>,
     unicode_mode: bool,
     steps: &mut C,
 ) -> NameFound
@@ -47,10 +53,10 @@ fn after_name<C: Counter>(
     ensures ends { (n : ℕ) → result ≡ NameFound.Name n → (n ≡ count) × (starts ascii.backslash (values units.now) ≡ false) }
     ensures steps { Rises (C.count steps.old) (C.count steps.new) 0 (halt_looks (length units.now) result) }
 {
-    match units {
-        [end, ..] if count > 0 && end.value == '>' as u32 => NameFound::Name { length: count },
-        [backslash, following @ ..] if backslash.value == '\\' as u32 => {
-            NameFound::Halt(escape_in_name(count, following, unicode_mode, steps))
+    match units.split_first() {
+        Some((end, _)) if count > 0 && end == '>' as u32 => NameFound::Name { length: count },
+        Some((backslash, following)) if backslash == '\\' as u32 => {
+            NameFound::Halt(escape_in_name(count, &following, unicode_mode, steps))
         }
         _ if !unicode_mode && begins_with_pair(units) => {
             NameFound::Halt(Halt::MisplacedPair { start: count + 3 })
@@ -60,20 +66,20 @@ fn after_name<C: Counter>(
 }
 
 /// Whether a raw lead surrogate and a raw trail surrogate stand first.
-fn begins_with_pair(units: &[CodePoint]) -> bool
+fn begins_with_pair<U: Unit>(units: &Ahead<'_, U>) -> bool
     ensures pair { result ≡ begins_pair (values units.now) }
     ensures within { IsTrue result → 2 ≤ length units.now }
 {
-    match units {
-        [lead, trail, ..] => is_lead_surrogate(lead.value) && is_trail_surrogate(trail.value),
+    match units.items() {
+        [lead, trail, ..] => is_lead_surrogate(lead.value()) && is_trail_surrogate(trail.value()),
         _ => false,
     }
 }
 
 /// Why what stands after n units of a name and a backslash is none of the name's characters (RegExpUnicodeEscapeSequence of ECMA-262, 22.2.1).
-fn escape_in_name<C: Counter>(
+fn escape_in_name<U: Unit, C: Counter>(
     count: usize,
-    following: &[CodePoint],
+    following: &Ahead<'_, U>,
     unicode_mode: bool,
     steps: &mut C,
 ) -> Halt
@@ -102,8 +108,8 @@ fn escape_in_name<C: Counter>(
     }
 }
 
-fn begins_with_u(units: &[CodePoint]) -> bool
+fn begins_with_u<U: Unit>(units: &Ahead<'_, U>) -> bool
     ensures { result ≡ starts ascii.u (values units.now) }
 {
-    units.first().is_some_and(|unit| unit.value == 'u' as u32)
+    units.first() == Some('u' as u32)
 }

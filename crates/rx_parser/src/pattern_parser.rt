@@ -11,32 +11,32 @@ use rx_ast::Pattern;
 use rx_base::{Counter, Diagnostic, Fault, List, Steps};
 use rx_model::Rules;
 use rx_scan::{SpanFactory, State, StateFault};
-use rx_units::Reader;
+use rx_units::{CodePoint, Reader, UnitSource};
 use std::alloc::Global;
 use std::marker::Brand;
 use std::sync::ledger::{Blank, Ledger};
 
 /// Reads a pattern from the units of a reader.
 #[derive(Drop)]
-pub struct PatternParser<'a> {
+pub struct PatternParser<'a, S: UnitSource = List<CodePoint>> {
     pub alloc: Global,
-    pub reader: Reader<'a>,
+    pub reader: Reader<'a, S>,
     pub state: State,
     pub spans: SpanFactory,
     /// Whether the buffer boundaries are read with `u` or `v`.
     pub buffer_boundaries: bool,
 }
 
-impl<'a> PatternParser<'a> {
+impl<'a, S: UnitSource + 'a> PatternParser<'a, S> {
     /// A parser of what the reader holds. The modes are whether it is a unicode mode and whether it is sets mode; `span_offset` is added to each offset
     /// of an answer, in bytes. The rules are whether two groups may have one name where they never both take part, and whether the buffer boundaries are read.
     pub fn new(
         alloc: Global,
-        reader: Reader<'a>,
+        reader: Reader<'a, S>,
         modes: (bool, bool),
         span_offset: u32,
         rules: (bool, bool),
-    ) -> PatternParser<'a>
+    ) -> PatternParser<'a, S>
         ensures reader { result.reader ≡ reader.entry }
         ensures modes { (result.state.unicode_mode, result.state.unicode_sets_mode) ≡ modes }
         ensures offset { result.spans ≡ span_offset }
@@ -62,7 +62,7 @@ impl<'a> PatternParser<'a> {
 
         ensures { AnswersParser self.entry result }
     {
-        parse_alone::<Brand>(self, Blank::new(1))
+        parse_alone::<S, Brand>(self, Blank::new(1))
     }
 
     /// Reads the pattern as `parse` does, and counts each unit that is moved over, and each turn of a loop that looks ahead: at most eight steps for each
@@ -91,7 +91,7 @@ impl<'a> PatternParser<'a> {
         };
         first_pass(&mut state, &mut reader, &spans, steps)?;
         let start = here(&reader, &spans);
-        let capacity = reader.remaining_code_points().len().min(TERMS_RESERVED);
+        let capacity = reader.ahead().len().min(TERMS_RESERVED);
         let builder = Builder::with_capacity(alloc, mode, rules, start, capacity)?;
         let parse = Parse {
             alloc,
@@ -108,7 +108,10 @@ impl<'a> PatternParser<'a> {
 /// Reads the pattern with a counter that no one sees.
 // Why: docs/DECISIONS.md, 98.
 #[inline(always)]
-fn parse_alone<L: Ledger>(parser: PatternParser<'_>, blank: Blank) -> Result<Pattern, Fault>
+fn parse_alone<'a, S: UnitSource + 'a, L: Ledger>(
+    parser: PatternParser<'a, S>,
+    blank: Blank,
+) -> Result<Pattern, Fault>
     requires name { blank.name ≡ L.name }
     requires parts { blank.parts ≡ L.parts }
     requires one { blank.parts ≡ 1 }
@@ -121,9 +124,9 @@ fn parse_alone<L: Ledger>(parser: PatternParser<'_>, blank: Blank) -> Result<Pat
 }
 
 /// Counts the groups of the text and lists their names, or tells why the text is refused for them.
-fn first_pass<C: Counter>(
+fn first_pass<S: UnitSource, C: Counter>(
     state: &mut State,
-    reader: &mut Reader<'_>,
+    reader: &mut Reader<'_, S>,
     spans: &SpanFactory,
     steps: &mut C,
 ) -> Result<(), Fault>
@@ -155,7 +158,10 @@ fn first_pass<C: Counter>(
 const TERMS_RESERVED: usize = 16;
 
 /// The tree of a text of which nothing is read yet, and whose groups are counted.
-fn read_pattern<C: Counter>(mut parse: Parse<'_>, steps: &mut C) -> Result<Pattern, Fault>
+fn read_pattern<'a, S: UnitSource + 'a, C: Counter>(
+    mut parse: Parse<'a, S>,
+    steps: &mut C,
+) -> Result<Pattern, Fault>
     requires start { parse.reader.place ≡ 0 }
     requires under_way { IsUnderWay parse }
     ensures whole { IfOk result (IsWhole parse.entry.builder.mode parse.entry.builder.rules parse.entry.reader.units parse.entry.reader.first parse.entry.spans) }
@@ -163,7 +169,7 @@ fn read_pattern<C: Counter>(mut parse: Parse<'_>, steps: &mut C) -> Result<Patte
     ensures steps { C.count steps.new ≤ C.count steps.old + 7 * length parse.entry.reader.units + 8 }
     ensures all { OnOk result (C.count steps.old + length parse.entry.reader.units ≤ C.count steps.new) }
 {
-    while !parse.reader.remaining_code_points().is_empty() {
+    while !parse.reader.ahead().is_empty() {
         if parse.take_common(steps)? {
             continue;
         }

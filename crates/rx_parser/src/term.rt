@@ -13,7 +13,7 @@ use rx_ast::{
 };
 use rx_base::{Counter, OutOfMemory, Span, Text};
 use rx_scan::capturing_group_name_counted;
-use rx_units::CodePoint;
+use rx_units::{Ahead, Unit};
 use std::alloc::Global;
 
 /// The term that a leaf is.
@@ -56,9 +56,9 @@ pub fn class_term(alloc: Global, class: CharacterClass) -> Result<Term, OutOfMem
 }
 
 /// The name in what n units are, a group's beginning or a reference: it stands between the third unit and the `>` at their end.
-pub fn name_in<C: Counter>(
+pub fn name_in<U: Unit, C: Counter>(
     alloc: Global,
-    units: &[CodePoint],
+    units: &Ahead<'_, U>,
     length: usize,
     unicode_mode: bool,
     steps: &mut C,
@@ -68,7 +68,8 @@ pub fn name_in<C: Counter>(
     ensures steps { C.count steps.new ≤ C.count steps.old + 2 * (length - 1) }
     ensures least { OnOk result (C.count steps.old ≤ C.count steps.new) }
 {
-    match capturing_group_name_counted(alloc, &units[3..length - 1], unicode_mode, steps)? {
+    let name = units.from(3).front(length - 4);
+    match capturing_group_name_counted(alloc, &name, unicode_mode, steps)? {
         Some(name) => Ok(name),
         None => unreachable!(),
     }

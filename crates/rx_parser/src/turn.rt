@@ -27,15 +27,15 @@ use rx_base::{Counter, Diagnostic, Fault, List, OutOfMemory, Span, Text};
 use rx_class::{parse_character_class_escape_unicode, parse_character_class_with_list, unit_kind};
 use rx_scan::{Environment, SpanFactory, State};
 use rx_tables::is_syntax_character;
-use rx_units::{CodePoint, Reader};
+use rx_units::{Ahead, Reader, Unit, UnitSource};
 use std::alloc::Global;
 
 /// A pattern that is being read: where its reader stands, what the first pass found in its units, and what is built of those before the reader.
 // Why: docs/DECISIONS.md, 102.
 #[derive(Drop)]
-pub struct Parse<'a> {
+pub struct Parse<'a, S: UnitSource> {
     pub alloc: Global,
-    pub reader: Reader<'a>,
+    pub reader: Reader<'a, S>,
     pub state: State,
     pub spans: SpanFactory,
     pub builder: Builder,
@@ -43,7 +43,7 @@ pub struct Parse<'a> {
     pub class_contents: List<CharacterClassContents>,
 }
 
-impl<'a> Parse<'a> {
+impl<'a, S: UnitSource + 'a> Parse<'a, S> {
     /// Reads a run of units that stand for themselves, or a common token, and gives it to the builder. `false` may be answered whatever stands there; then the
     /// parse is as it was. Fails only for lack of memory. A unit that is no SyntaxCharacter stands for itself in every mode (PatternCharacter of ECMA-262,
     /// 22.2.1), so nothing else is looked for there.
@@ -54,7 +54,7 @@ impl<'a> Parse<'a> {
         ensures turned { MayTurn self.old self.new result }
         ensures steps { MayTakeTurn (C.count steps.old) (C.count steps.new) self.old.reader self.new.reader result }
     {
-        let count = plain_length(self.reader.remaining_code_points(), steps);
+        let count = plain_length(&self.reader.ahead(), steps);
         if count == 0 {
             return self.take_by_first_unit(steps);
         }
@@ -76,7 +76,7 @@ impl<'a> Parse<'a> {
         ensures refused { IfErr result (RefusesText self.old) }
         ensures steps { TakesToken (C.count steps.old) (C.count steps.new) self.old.reader self.new.reader result }
     {
-        if first_ascii(self.reader.remaining_code_points()) == Some(b'[') {
+        if first_ascii(&self.reader.ahead()) == Some(b'[') {
             return self.class(steps);
         }
         self.take_found(steps)
@@ -91,7 +91,7 @@ impl<'a> Parse<'a> {
         ensures turned { MayTurn self.old self.new result }
         ensures steps { MayTakeToken (C.count steps.old) (C.count steps.new) self.old.reader self.new.reader result }
     {
-        match first_ascii(self.reader.remaining_code_points()) {
+        match first_ascii(&self.reader.ahead()) {
             Some(b'|') => {
                 self.bar(steps)?;
                 Ok(true)
@@ -124,7 +124,7 @@ impl<'a> Parse<'a> {
         requires fits { AreFitting self.now.spans self.now.reader }
         ensures { result ≡ offset_of (move_on length self.now.reader) + self.now.spans }
     {
-        let end = self.reader.remaining_code_points()[length - 1].span.end;
+        let end = self.reader.ahead().end_of(length);
         self.spans.create(end, end).end
     }
 
@@ -153,8 +153,7 @@ impl<'a> Parse<'a> {
         ensures long { IfSome result (λ it. 2 ≤ it.1) }
         ensures within { IfSome result (λ it. it.1 ≤ units_left self.now.reader) }
     {
-        let units = self.reader.remaining_code_points();
-        common_leaf_at(units, self.builder.mode.is_unicode())
+        common_leaf_at(&self.reader.ahead(), self.builder.mode.is_unicode())
     }
 
     /// Reads `(` that no `?` follows, or `(?:`, and opens its group in the builder. Else it answers `false`, and nothing changes.
@@ -165,12 +164,12 @@ impl<'a> Parse<'a> {
         ensures turned { MayTurn self.old self.new result }
         ensures steps { MayTakeToken (C.count steps.old) (C.count steps.new) self.old.reader self.new.reader result }
     {
-        let units = self.reader.remaining_code_points();
-        if !stands_at(units, 1, '?') {
+        let units = self.reader.ahead();
+        if !stands_at(&units, 1, '?') {
             self.open_group(GroupKind::Capturing(None), 1, steps)?;
             return Ok(true);
         }
-        if !stands_at(units, 2, ':') {
+        if !stands_at(&units, 2, ':') {
             return Ok(false);
         }
         self.open_group(GroupKind::Ignoring(None), 3, steps)?;
@@ -206,7 +205,7 @@ impl<'a> Parse<'a> {
         ensures turned { MayTurn self.old self.new result }
         ensures steps { IsMove (C.count steps.old) (C.count steps.new) self.old.reader self.new.reader }
     {
-        let is_lazy = stands_at(self.reader.remaining_code_points(), 1, '?');
+        let is_lazy = stands_at(&self.reader.ahead(), 1, '?');
         let length = 1 + is_lazy as usize;
         self.quantify_last(counts_of_sign(sign), !is_lazy, length, steps)
     }
@@ -284,7 +283,7 @@ impl<'a> Parse<'a> {
         ensures steps { Rises (C.count steps.old) (C.count steps.new) 0 (looks (drop 1 (rest self.now.reader)) result) }
     {
         let environment = Environment::of(&self.state, self.builder.rules.buffer_boundaries);
-        front_at(self.reader.remaining_code_points(), environment, steps)
+        front_at(&self.reader.ahead(), environment, steps)
     }
 
     /// Reads a term that is one token of n units, and gives it to the builder.
@@ -313,8 +312,8 @@ impl<'a> Parse<'a> {
         ensures steps { MovesOver length (C.count steps.old) (C.count steps.new) self.old.reader self.new.reader result }
     {
         let unicode_mode = self.builder.mode.is_unicode();
-        let units = self.reader.remaining_code_points();
-        let name = name_in(self.alloc, units, length, unicode_mode, steps)?;
+        let units = self.reader.ahead();
+        let name = name_in(self.alloc, &units, length, unicode_mode, steps)?;
         let span = span_over(&mut self.reader, &self.spans, length, steps);
         if !self.state.capturing_group_names.contains(name.as_str()) {
             let names = copy(self.alloc, self.state.capturing_group_names.as_slice())?;
@@ -428,8 +427,8 @@ impl<'a> Parse<'a> {
             OpenerFound::Capturing => Ok(GroupKind::Capturing(None)),
             OpenerFound::Named => {
                 let unicode_mode = self.builder.mode.is_unicode();
-                let units = self.reader.remaining_code_points();
-                let name = name_in(self.alloc, units, length, unicode_mode, steps)?;
+                let units = self.reader.ahead();
+                let name = name_in(self.alloc, &units, length, unicode_mode, steps)?;
                 Ok(GroupKind::Capturing(Some(name)))
             }
             OpenerFound::Ignoring => Ok(GroupKind::Ignoring(None)),
@@ -503,11 +502,11 @@ impl<'a> Parse<'a> {
 
 /// The value of the first unit, where it is an ASCII character. `None` where there is none, or it is past ASCII.
 #[inline(always)]
-fn first_ascii(units: &[CodePoint]) -> Option<u8>
+fn first_ascii<U: Unit>(units: &Ahead<'_, U>) -> Option<u8>
     ensures { IfSome result (λ it. front units.now ≡ Some it) }
 {
-    match units {
-        [first, ..] if first.value < 128 => Some(first.value as u8),
+    match units.first() {
+        Some(first) if first < 128 => Some(first as u8),
         _ => None,
     }
 }
@@ -536,15 +535,16 @@ fn is_quantifier_sign(value: u8) -> bool
 
 /// How many units stand before the first SyntaxCharacter: they stand for themselves in every mode.
 #[inline(always)]
-#[tactic(auto, using(crate::proofs::PlainRuns::plain_more, crate::proofs::Paces::plain_next, crate::proofs::Paces::plain_stops, crate::proofs::Paces::plain_ends))]
-fn plain_length<C: Counter>(units: &[CodePoint], steps: &mut C) -> usize
+#[tactic(auto, using(crate::proofs::Paces::plain_ends))]
+fn plain_length<U: Unit, C: Counter>(units: &Ahead<'_, U>, steps: &mut C) -> usize
     ensures within { result ≤ length units.now }
     ensures plain { All (λ unit. is_syntax_character unit.value ≡ false) (take result units.now) }
     ensures whole { result ≡ plain units.now }
     ensures steps { C.count steps.new ≡ C.count steps.old + result }
 {
+    let items = units.items();
     let mut count = 0;
-    while count < units.len() && !is_syntax_character(units[count].value) {
+    while count < items.len() && !is_syntax_character(items[count].value()) {
         steps.tick();
         count += 1;
     }
@@ -552,8 +552,8 @@ fn plain_length<C: Counter>(units: &[CodePoint], steps: &mut C) -> usize
 }
 
 /// Reads the n units that stand next and for themselves, and gives them to the builder. Memory for them is taken at once.
-fn plain_run<C: Counter>(
-    reader: &mut Reader<'_>,
+fn plain_run<S: UnitSource, C: Counter>(
+    reader: &mut Reader<'_, S>,
     spans: &SpanFactory,
     builder: &mut Builder,
     count: usize,
@@ -570,15 +570,16 @@ fn plain_run<C: Counter>(
 {
     builder.level.reserve(count)?;
     let mut start = here(reader, spans);
-    for unit in &reader.remaining_code_points()[..count] {
+    let mut left = reader.ahead().front(count);
+    while let Some(value) = left.first() {
         steps.tick();
-        let end = spans.create(unit.span.end, unit.span.end).end;
-        let leaf = Leaf::Character {
-            kind: unit_kind(unit.escape_kind),
-            value: unit.value,
-        };
+        let end = left.end_of(1);
+        let end = spans.create(end, end).end;
+        let kind = unit_kind(left.escape_kind());
+        let leaf = Leaf::Character { kind, value };
         builder.leaf(term(leaf, Span::new(start, end)))?;
         start = end;
+        left = left.from(1);
     }
     reader.skip_counted(count, steps);
     Ok(())
@@ -587,8 +588,8 @@ fn plain_run<C: Counter>(
 /// Moves over n units, and gives their span.
 #[inline(always)]
 #[tactic(auto, using(rx_class::proofs::Fitting::moved_are_fitting))]
-fn span_over<C: Counter>(
-    reader: &mut Reader<'_>,
+fn span_over<S: UnitSource, C: Counter>(
+    reader: &mut Reader<'_, S>,
     spans: &SpanFactory,
     length: usize,
     steps: &mut C,

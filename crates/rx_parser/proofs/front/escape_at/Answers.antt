@@ -1,4 +1,4 @@
-use Rattle.std.proofs.Common.{◌∙◌, ap, arith, false, length, rules, subst, sym, ◌+◌, ◌<◌, ◌^◌}
+use Rattle.std.proofs.Common.{◌∙◌, ap, arith, false, subst, sym}
 use Rattle.rx_parser.proofs.Common.{length-map, CodePoint, values, seen_environment, LooksAtEscape, any_within, seen_escape}
 use Rattle.rx_parser.proofs.Looks.{escape_looked}
 use Rattle.rx_parser.proofs.front.escape_at.Goals as goal
@@ -7,8 +7,7 @@ pub character-requires : goal.character-requires
 character-requires g c = λ kind value n is.
     let us = c.args.following.now in
     let within = any_within false (seen_environment c.args.environment) kind value n (values us) (sym c.any_escape_at.ensures.read ∙ ap seen_escape is) in
-    let small : length us + 1 < 2 ^ 64 = search rules in
-    omega (arith, within, length-map us (λ (u : CodePoint). u.value), small)
+    omega (arith, within, length-map us (λ (u : CodePoint). u.value), c.len.ensures)
 
 pub returns-clause-steps : goal.returns-clause-steps
 returns-clause-steps g c =

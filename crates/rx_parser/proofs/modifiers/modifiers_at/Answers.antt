@@ -9,18 +9,18 @@ returns-then-not-stands_at-clause-found g c =
     let s = c.sides_at-sides.result in
     let there : starts 58 (drop s.length us) ≡ false = sym c.if-not-stands_at.ensures.there in
     c.halt.ensures
-    ∙ ap (λ b. found_front (modified_read (cond b (read_bits (are_bits (values s.enabling.now)) (are_bits (values s.disabling.now)) s.length) (no_modifiers_read no_colon s.length)))) (sym there)
+    ∙ ap (λ b. found_front (modified_read (cond b (read_bits (are_bits (values s.enabling)) (are_bits (values s.disabling)) s.length) (no_modifiers_read no_colon s.length)))) (sym there)
     ∙ ap (λ r. found_front (modified_read (read_sides r us))) c.sides_at-sides.ensures.sides
 
 pub bits_of-requires : goal.bits_of-requires
 bits_of-requires g c =
     let s = c.sides_at-sides.result in
-    (letters_there c.args.units.now (values s.enabling.now) (values s.disabling.now) s.length c.sides_at-sides.ensures.sides).0
+    (letters_there (values c.args.units.now) (values s.enabling) (values s.disabling) s.length c.sides_at-sides.ensures.sides).0
 
 pub bits_of-requires-2 : goal.bits_of-requires-2
 bits_of-requires-2 g c =
     let s = c.sides_at-sides.result in
-    (letters_there c.args.units.now (values s.enabling.now) (values s.disabling.now) s.length c.sides_at-sides.ensures.sides).1
+    (letters_there (values c.args.units.now) (values s.enabling) (values s.disabling) s.length c.sides_at-sides.ensures.sides).1
 
 pub returns-clause-found : goal.returns-clause-found
 returns-clause-found g c =
@@ -29,5 +29,5 @@ returns-clause-found g c =
     let there : starts 58 (drop s.length us) ≡ true = sym c.if-not-stands_at.ensures.there in
     c.modified.ensures
     ∙ ap₂ (λ a b. found_front (modified_read (read_bits a b s.length))) c.bits_of.ensures.bits c.bits_of-2.ensures.bits
-    ∙ ap (λ b. found_front (modified_read (cond b (read_bits (are_bits (values s.enabling.now)) (are_bits (values s.disabling.now)) s.length) (no_modifiers_read no_colon s.length)))) (sym there)
+    ∙ ap (λ b. found_front (modified_read (cond b (read_bits (are_bits (values s.enabling)) (are_bits (values s.disabling)) s.length) (no_modifiers_read no_colon s.length)))) (sym there)
     ∙ ap (λ r. found_front (modified_read (read_sides r us))) c.sides_at-sides.ensures.sides

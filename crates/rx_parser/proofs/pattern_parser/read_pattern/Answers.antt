@@ -6,10 +6,10 @@ use Rattle.rx_parser.proofs.Paces.{plain_within}
 use Rattle.rx_parser.proofs.pattern_parser.read_pattern.Goals as goal
 
 -- What is answered after some turns is answered to what was given before them.
-refuses_same : (p q : Parse) (fault : Fault) → fixed_parts q ≡ fixed_parts p → RefusesText q fault → RefusesText p fault
+refuses_same : {S U : Type 0} (p q : Parse S U) (fault : Fault) → fixed_parts q ≡ fixed_parts p → RefusesText q fault → RefusesText p fault
 refuses_same p q fault kept h = subst (λ (k : Mode × Rules × List CodePoint × ℕ × ℕ × State). IsRefused k.0 k.1 k.2 k.3 k.4 fault) kept h
 
-whole_same : (p q : Parse) (tree : Pattern) → fixed_parts q ≡ fixed_parts p → IsWhole q.builder.mode q.builder.rules q.reader.units q.reader.first q.spans tree
+whole_same : {S U : Type 0} (p q : Parse S U) (tree : Pattern) → fixed_parts q ≡ fixed_parts p → IsWhole q.builder.mode q.builder.rules q.reader.units q.reader.first q.spans tree
     → IsWhole p.builder.mode p.builder.rules p.reader.units p.reader.first p.spans tree
 whole_same p q tree kept h = subst (λ (k : Mode × Rules × List CodePoint × ℕ × ℕ × State). IsWhole k.0 k.1 k.2 k.3 k.4 tree) kept h
 
@@ -18,7 +18,7 @@ end_paced : (from to : Cursor) (old new : ℕ) → IsTurnPaced old new from to �
 end_paced from to old new pace none = omega (arith, none, pace.1, plain_within (rest to), length-drop from.place from.units)
 
 -- something is left
-has_more : (p : Parse) → IsUnderWay p → (length (rest p.reader) ≡ 0 → ⊥) → HasMore p
+has_more : {S U : Type 0} (p : Parse S U) → IsUnderWay p → (length (rest p.reader) ≡ 0 → ⊥) → HasMore p
 has_more p h some = record { under_way = h; left = omega (arith, some, length-drop p.reader.place p.reader.units, h.parsing.within) }
 
 pub loop-parse-init : goal.loop-parse-init

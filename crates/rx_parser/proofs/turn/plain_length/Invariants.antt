@@ -12,4 +12,4 @@ invariant-loop-count g l = record {
 }
 
 abbrev pub decreases-loop-count : goal.decreases-loop-count
-decreases-loop-count g l = length l.units - l.count
+decreases-loop-count g l = length l.items - l.count

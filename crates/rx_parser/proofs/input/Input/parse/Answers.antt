@@ -1,26 +1,10 @@
-use Rattle.std.proofs.Common.{◌≡◌, ◌∙◌, ap, subst, ℕ, Bool, List, Result, Ok, Err}
-use Rattle.rx_parser.proofs.Common.{Pattern, Fault, Cursor, CodePoint, mode_of_state, Mode, Rules, mode_by, first_offset, AnswersUnits, rules_of_state, seen_input}
-use Rattle.rx_parser.specs.declared.pattern_parser.PatternParser.{PatternParser}
-use Rattle.rx_parser.proofs.Inputs.{passed_parsed, units_fault, units_parsed}
+use Rattle.std.proofs.Common.{◌≡◌, ◌∙◌, ap, sym, subst, arith}
+use Rattle.rx_class.proofs.TextFits.{made_are_fitting}
+use Rattle.rx_model.proofs.Inputs.Asked.{literal_asks}
+use Rattle.rx_parser.proofs.Common.{Cursor, literal_units, Literal, is_unicode, first_offset, stand_in, Asks, seen_input}
+use Rattle.rx_parser.proofs.Inputs.{passed_parsed}
+use Rattle.rx_parser.proofs.input.Input.parse.Goals.{in-Literal, in_default}
 use Rattle.rx_parser.proofs.input.Input.parse.Goals as goal
-
--- What is answered to the units of a parser is answered to what it was made of.
-made_answers : (made : PatternParser) (reader : Cursor) (mode : Mode) (modes rules : Bool × Bool) (first offset : ℕ) (answer : Result Pattern Fault)
-    → made.reader ≡ reader → (made.state.unicode_mode, made.state.unicode_sets_mode) ≡ modes → (made.state.duplicate_names, made.buffer_boundaries) ≡ rules → made.spans ≡ offset
-    → mode_by modes.0 modes.1 ≡ mode → reader.first ≡ first
-    → AnswersUnits (mode_of_state made.state) (rules_of_state made.state made.buffer_boundaries) made.reader.units made.reader.first made.spans answer
-    → AnswersUnits mode (record { duplicate_names = rules.0; buffer_boundaries = rules.1 }) reader.units first offset answer
-made_answers made reader mode modes rules first offset answer reader_is modes_are rules_are offset_is mode_is first_is answers =
-    let under : Rules = record { duplicate_names = rules.0; buffer_boundaries = rules.1 } in
-    let e1 : mode_of_state made.state ≡ mode = ap (λ (m : Bool × Bool). mode_by m.0 m.1) modes_are ∙ mode_is in
-    let e2 : rules_of_state made.state made.buffer_boundaries ≡ under = ap (λ (r : Bool × Bool). record { duplicate_names = r.0; buffer_boundaries = r.1 }) rules_are in
-    let e3 : made.reader.units ≡ reader.units = ap (λ (r : Cursor). r.units) reader_is in
-    let e4 : made.reader.first ≡ first = ap (λ (r : Cursor). r.first) reader_is ∙ first_is in
-    let Parts : Type 0 = Mode × Rules × List CodePoint × ℕ × ℕ in
-    let here : Parts = (mode_of_state made.state, rules_of_state made.state made.buffer_boundaries, made.reader.units, made.reader.first, made.spans) in
-    let there : Parts = (mode, under, reader.units, first, offset) in
-    let same : here ≡ there = cc (e1, e2, e3, e4, offset_is) in
-    subst (λ (k : Parts). AnswersUnits k.0 k.1 k.2 k.3 k.4 answer) same answers
 
 pub returns-in_err-mode-clause-answered : goal.returns-in_err-mode-clause-answered
 returns-in_err-mode-clause-answered c =
@@ -32,25 +16,19 @@ returns-in_err-reader-clause-answered c =
     let left = c.from_residual-in_err-reader in
     passed_parsed (seen_input c.args.self.now) left.result c.in_err-reader.field-0.0 left.ensures.1 c.in_err-reader.ensures.refused
 
-pub returns-in_err-parse-clause-answered : goal.returns-in_err-parse-clause-answered
-returns-in_err-parse-clause-answered c =
-    let input = seen_input c.args.self.now in
-    let mode = c.in_ok-mode.mode in
-    let read = c.in_ok-reader in
-    let given = c.new-parser.ensures in
-    let it = c.in_err-parse.field-0.0 in
-    let left = c.from_residual-in_err-parse in
-    let answers = made_answers c.new-parser.result read.reader mode c.mode_flags.result (input.rules.duplicate_names, input.rules.buffer_boundaries) (first_offset input.form) input.text_offset (Err it)
-    given.reader given.modes given.rules given.offset c.mode_flags.ensures read.ensures.first c.in_err-parse.ensures in
-    passed_parsed input left.result it left.ensures.1 (units_fault input mode read.reader.units read.ensures.units it answers.refused)
-
-pub returns-clause-answered : goal.returns-clause-answered
-returns-clause-answered c =
-    let input = seen_input c.args.self.now in
-    let mode = c.in_ok-mode.mode in
-    let read = c.in_ok-reader in
-    let given = c.new-parser.ensures in
-    let p = c.in_ok-parse.field-0 in
-    units_parsed input mode read.reader.units read.ensures.units p mode
-    (made_answers c.new-parser.result read.reader mode c.mode_flags.result (input.rules.duplicate_names, input.rules.buffer_boundaries) (first_offset input.form) input.text_offset (Ok p)
-    given.reader given.modes given.rules given.offset c.mode_flags.ensures read.ensures.first c.in_ok-parse.ensures)
+-- the units of a literal in ASCII
+pub parse_units-requires : goal.parse_units-requires
+parse_units-requires c =
+    let it = c.args.self.now in
+    let input = seen_input it in
+    let mode = c.in_ok-mode in
+    let text = c.text-text in
+    let literal : it.form ≡ Literal = elim c.match-matches.branch [ in-Literal w ↦ w.in-Literal.is | in_default w ↦ absurd (let no : ⊥ = cc (w.matches-is, c.if-matches.true) in no) ] in
+    let made = c.of_ascii.ensures (is_unicode mode.mode) in
+    record {
+      units = subst (Asks input mode.mode) (sym (ap (λ (r : Cursor). r.units) made ∙ ap (literal_units (is_unicode mode.mode) 0) (text.ensures.text ∙ ap (λ form. stand_in form input.text) literal)))
+          (literal_asks input mode.mode literal mode.ensures.asked);
+      start = ap (λ (r : Cursor). r.place) made;
+      first = ap (λ (r : Cursor). r.first) made ∙ ap first_offset (sym literal);
+      fits = made_are_fitting (is_unicode mode.mode) text.result.now it.options.pattern_span_offset c.of_ascii.result text.utf8 (omega (arith, it.pattern_fits, text.ensures.length)) made;
+    }

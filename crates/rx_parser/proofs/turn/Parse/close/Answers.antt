@@ -11,5 +11,5 @@ returns-clause-refused g c =
     let it = c.in_ok-take_closer in
     let none : it.field-0 ≡ false = cc in
     let same : c.take_closer.new.self ≡ p = rw none at it.ensures.turned in
-    subst (λ s. RefusesText p (Diagnostic (ParsePatternIncomplete s))) (sym (c.empty-span.ensures ∙ ap empty_at (c.span_over-at.ensures.start ∙ ap (λ (q : Parse). offset_of q.reader + q.spans) same)))
+    subst (λ s. RefusesText p (Diagnostic (ParsePatternIncomplete s))) (sym (c.empty-span.ensures ∙ ap empty_at (c.span_over-at.ensures.start ∙ ap (λ (q : Parse _ _). offset_of q.reader + q.spans) same)))
     (closer_refused p.reader.units p.reader.first p.spans p.builder p.reader.place h.under_way.parsing h.under_way.pass.no_clash h.under_way.pass.in_limit c.requires.found (it.ensures.none none))

@@ -10,7 +10,7 @@ returns-then-not-contains-clause-refused g c =
     let span = c.span_over-span in
     subst (λ names. RefusesText c.args.self.now (Diagnostic (InvalidNamedReference span.result names))) (sym names_are)
     (name_refused (before c.requires.more) c.requires.more.under_way.pass span.new.reader c.in_ok-name.name c.args.length span.result.start span.result.end
-    (named_passed (before c.requires.more) c.requires.found c.remaining_code_points-units.ensures.units c.is_unicode-unicode_mode.ensures c.in_ok-name.ensures.name span.ensures.start span.ensures.end span.ensures.reader) none)
+    (named_passed (before c.requires.more) c.requires.found c.ahead-units.ensures.units c.is_unicode-unicode_mode.ensures c.in_ok-name.ensures.name span.ensures.start span.ensures.end span.ensures.reader) none)
 
 pub returns-clause-turned : goal.returns-clause-turned
 returns-clause-turned g c =
@@ -21,6 +21,6 @@ returns-clause-turned g c =
     let some : is_among c.args.self.now.state.capturing_group_names name ≡ true = search rules in
     has_turned c.requires.more
     (leaf_turned (before c.requires.more) c.leaf.new.self span.new.reader (named name) c.args.length span.result.start span.result.end c.in_ok-named_term.field-0
-    (named_passed (before c.requires.more) c.requires.found c.remaining_code_points-units.ensures.units c.is_unicode-unicode_mode.ensures c.in_ok-name.ensures.name span.ensures.start span.ensures.end span.ensures.reader)
+    (named_passed (before c.requires.more) c.requires.found c.ahead-units.ensures.units c.is_unicode-unicode_mode.ensures c.in_ok-name.ensures.name span.ensures.start span.ensures.end span.ensures.reader)
     (subst (λ names. Contains names name) c.requires.more.under_way.pass.names (found_among c.args.self.now.state.capturing_group_names name some)) its
     (record { events = it.events; openers_are = it.openers; ready_is = it.ready; good = it.good (its.good c.args.self.now.builder.mode); fixed = it.fixed })) refl refl
