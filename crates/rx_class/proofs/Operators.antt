@@ -1,5 +1,5 @@
 -- The operators of a class with `v`: what is held before and after one, where it leads, and what may be spelled there.
-use Rattle.std.proofs.Common.{◌≡◌, refl, ◌<◌, false, true, None, Some, List, length, arith, ap, ℕ, not, ◌⊎◌, IsSome}
+use Rattle.std.proofs.Common.{◌≡◌, refl, ◌<◌, false, true, None, Some, List, length, arith, ap, ℕ, not, ◌⊎◌}
 use Rattle.rx_class.proofs.Common.{SetOperator, Intersection, Subtraction, CodePoint, values, Mode, is_union, is_whole, operand, operator_of, with_range, joined, pending, with_operator, Atom}
 use Rattle.rx_class.proofs.Common.{ClassToken, item, operator, operator_text, starts, Environment, is_sets, begins_item, last_operator, place_of}
 use Rattle.rx_model.specs.Classes.ClassRows.{Place, SpellsInClass, SpellsOperand, fresh, may_follow_operator, next_place, after_operator}

@@ -1,5 +1,5 @@
 -- Escapes that are read alike in classes and outside them, in each environment.
-use Rattle.std.proofs.Common.{◌≡◌, refl, sym, ap, ◌∙◌, ℕ, ◌-◌, ◌≤◌, ◌==◌, nat_le, Bool, true, false, ◌&&◌, Some, None, List, [], ◌∷◌, length, drop, codes, arith, inl, inr, option_map, if◌then◌else◌}
+use Rattle.std.proofs.Common.{◌≡◌, refl, sym, ap, ◌∙◌, ℕ, ◌≤◌, ◌==◌, nat_le, Bool, true, false, ◌&&◌, Some, None, List, [], ◌∷◌, length, drop, codes, arith, inl, inr, option_map, if◌then◌else◌}
 use Rattle.std.proofs.lemmas.Bool.{and_left, eq-eqb}
 use Rattle.rx_base.specs.Characters.{is_lead, is_within}
 use Rattle.rx_class.proofs.Common.{CodePoint, Environment, cases_Bool, chosen, cond-false, control_escape_value, is_one_of, is_unicode, nat_tests, starts, values, values_length}

@@ -1,8 +1,12 @@
 -- The words of the tables of properties.
-use Rattle.std.proofs.Common.{◌≡◌, ℕ, true, List, codes, refl, sym, ◌∙◌, subst, arith, ◌<◌, nat_lt, length, get_or, inl, inr}
+use Rattle.std.proofs.Common.{◌≡◌, ℕ, true, not, true≢false, List, codes, refl, sym, ap, ◌∙◌, subst, arith, ◌<◌, nat_lt, length, get_or, inl, inr}
 use Rattle.std.specs.Prelude.{Contains}
-use Rattle.rx_tables.specs.Properties.{IsValidUnicodeProperty, general_category_names, script_names}
-use Rattle.rx_class.proofs.Common.{list_all, nat_tests, All-weaker, is_unicode_property_value_character}
+use Rattle.rx_base.specs.Texts.{is_among}
+use Rattle.rx_tables.specs.Properties.{IsValidUnicodeProperty, binary_properties, general_category_names, general_category_values, properties_of_strings, script_names}
+use Rattle.rx_model.proofs.Properties.PropertyWords.{in_table}
+use Rattle.rx_model.proofs.Trees.Names.{among}
+use Rattle.rx_class.specs.declared.properties.found.Lone.TheVariants as lone
+use Rattle.rx_class.proofs.Common.{IsLone, list_all, nat_tests, All-weaker, is_unicode_property_value_character}
 use Rattle.std.specs.Str.{chars}
 use Rattle.rx_units.specs.Stored.{values_of}
 use Rattle.std.proofs.lemmas.Str.{chars-IsAscii}
@@ -37,3 +41,15 @@ pub name_is_short : (name value : List ℕ) → IsValidUnicodeProperty name valu
 unfolding general_category_names script_names
 name_is_short name value (inl known) = short_among general_category_names refl name known.0
 name_is_short name value (inr known) = short_among script_names refl name known.0
+
+not_within : (words : List (List ℕ)) (word : List ℕ) → not (is_among words word) ≡ true → Contains words word → ⊥
+not_within words word out within = true≢false (sym out ∙ ap not (among words word within))
+
+-- a property of strings names no characters
+pub lone_strings : (word : List ℕ) → Contains properties_of_strings word → IsLone word lone.OfStrings
+unfolding binary_properties general_category_values properties_of_strings
+lone_strings word strings = (
+  not_within general_category_values word (in_table (λ w. not (is_among general_category_values w)) properties_of_strings word refl strings),
+  not_within binary_properties word (in_table (λ w. not (is_among binary_properties w)) properties_of_strings word refl strings),
+  strings,
+)

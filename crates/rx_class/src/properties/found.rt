@@ -246,16 +246,16 @@ fn known_found(
     }
 }
 
-/// What a word names that stands alone between the braces.
+/// What a word names that stands alone between the braces. The shortest table is searched first: no word is in two.
 fn lone_word(word: &str) -> Lone
     ensures { IsLone (chars word.now) result }
 {
-    if is_general_category_value(word) {
+    if is_valid_lone_unicode_property_of_strings(word) {
+        Lone::OfStrings
+    } else if is_general_category_value(word) {
         Lone::Category
     } else if is_valid_lone_unicode_property(word) {
         Lone::Binary
-    } else if is_valid_lone_unicode_property_of_strings(word) {
-        Lone::OfStrings
     } else {
         Lone::Nothing
     }
