@@ -23,21 +23,17 @@ fn list_keeps_what_was_pushed(rt: HostRuntime) -> Result<(), Fail> {
     assert!(rt; list.is_empty());
     list.push('a')?;
     list.push('b')?;
-    assert_eq!(rt; list.try_push('c'), Ok(()));
-    assert_eq!(rt; list.len(), 3);
-    assert_eq!(rt; list.get(1), Some(&'b'));
-    assert_eq!(rt; list.get(3), None);
+    assert_eq!(rt; (list.try_push('c'), list.len()), (Ok(()), 3));
+    assert_eq!(rt; [list.get(1), list.get(3)], [Some(&'b'), None]);
     assert_eq!(rt; list.as_slice(), ['a', 'b', 'c'].as_slice());
-    assert_eq!(rt; list.pop(), Some('c'));
-    assert_eq!(rt; list.len(), 2);
+    assert_eq!(rt; (list.pop(), list.len()), (Some('c'), 2));
     let other: List<char> = List::new(list.allocator());
     other.destroy_empty();
     let mut bytes = list_of(rt.alloc(), b"ab")?;
     bytes.extend_from_slice(b"cd")?;
     assert_eq!(rt; bytes.as_slice(), b"abcd".as_slice());
     let mut taken = bytes.take_all()?;
-    assert_eq!(rt; taken.as_slice(), b"abcd".as_slice());
-    assert_eq!(rt; bytes.len(), 0);
+    assert_eq!(rt; (taken.as_slice(), bytes.len()), (b"abcd".as_slice(), 0));
     taken.clear();
     assert_eq!(rt; taken.len(), 0);
     Ok(())
@@ -48,8 +44,11 @@ fn text_grows(rt: HostRuntime) -> Result<(), Fail> {
     let mut text = Text::from_str(rt.alloc(), "a")?;
     text.push('\u{1f600}')?;
     text.push_str("bc")?;
-    assert_eq!(rt; text.as_str(), "a\u{1f600}bc");
-    assert_eq!(rt; text.clone(rt.alloc())?.as_str(), "a\u{1f600}bc");
+    let copy = text.clone(rt.alloc())?;
+    assert_eq!(rt;
+        [text.as_str(), copy.as_str()],
+        ["a\u{1f600}bc", "a\u{1f600}bc"]
+    );
     Ok(())
 }
 
@@ -66,11 +65,8 @@ fn memory_source_moves_steps(rt: HostRuntime) -> Result<(), Fail> {
         (Ok(0), ""),
     ] {
         let got = source.read(&mut buffer);
-        assert_eq!(rt; got, want, "before {front}");
-        assert!(rt;
-            buffer.as_slice().starts_with(front.as_bytes()),
-            "at {front}"
-        );
+        let begins = buffer.as_slice().starts_with(front.as_bytes());
+        assert_eq!(rt; (got, begins), (want, true), "before {front}");
     }
     Ok(())
 }
@@ -86,8 +82,7 @@ fn memory_sink_fills_its_room(rt: HostRuntime) -> Result<(), Fail> {
         ("", Ok(0), "hell"),
     ] {
         let got = sink.write(piece.as_bytes());
-        assert_eq!(rt; got, want, "at {piece}");
-        assert_eq!(rt; sink.bytes(), taken.as_bytes(), "after {piece}");
+        assert_eq!(rt; (got, sink.bytes()), (want, taken.as_bytes()), "at {piece}");
     }
     Ok(())
 }
@@ -96,9 +91,11 @@ fn memory_sink_fills_its_room(rt: HostRuntime) -> Result<(), Fail> {
 fn pieces_are_written_whole(rt: HostRuntime) -> Result<(), Fail> {
     let none = List::new(rt.alloc());
     let mut sink = MemorySink::new(rt.alloc(), 7, none, 2)?;
-    assert_eq!(rt; write_all(&mut sink, b"hello"), Ok(()));
-    assert_eq!(rt; write_all(&mut sink, b"you"), Err(Failed));
-    assert_eq!(rt; sink.bytes(), b"helloyo".as_slice());
+    let written = [write_all(&mut sink, b"hello"), write_all(&mut sink, b"you")];
+    assert_eq!(rt;
+        (written, sink.bytes()),
+        ([Ok(()), Err(Failed)], b"helloyo".as_slice())
+    );
     assert_eq!(rt; write_all(&mut CleanSink::new(), b"hello"), Ok(()));
     Ok(())
 }
@@ -107,10 +104,10 @@ fn pieces_are_written_whole(rt: HostRuntime) -> Result<(), Fail> {
 fn clean_source_gives_all(rt: HostRuntime) -> Result<(), Fail> {
     let mut source = CleanSource::new(b"abc");
     let mut buffer = [0u8; 2];
-    assert_eq!(rt; source.read(&mut buffer), Ok(2));
-    assert_eq!(rt; buffer.as_slice(), b"ab".as_slice());
-    assert_eq!(rt; source.read(&mut buffer), Ok(1));
-    assert_eq!(rt; source.read(&mut buffer), Ok(0));
+    let first = source.read(&mut buffer);
+    assert_eq!(rt; (first, buffer.as_slice()), (Ok(2), b"ab".as_slice()));
+    let others = [source.read(&mut buffer), source.read(&mut buffer)];
+    assert_eq!(rt; others, [Ok(1), Ok(0)]);
     Ok(())
 }
 
@@ -124,10 +121,21 @@ fn surrogates_at_their_edges(rt: HostRuntime) {
         (0xDFFF, false, true),
         (0xE000, false, false),
     ] {
-        assert_eq!(rt; is_lead_surrogate(code_point), lead, "at {code_point:X}");
-        assert_eq!(rt; is_trail_surrogate(code_point), trail, "at {code_point:X}");
+        assert_eq!(rt;
+            [
+                is_lead_surrogate(code_point),
+                is_trail_surrogate(code_point)
+            ],
+            [lead, trail],
+            "at {code_point:X}"
+        );
     }
-    assert_eq!(rt; combine_surrogate_pair(0xD800, 0xDC00), 0x10000);
-    assert_eq!(rt; combine_surrogate_pair(0xD83D, 0xDE00), 0x1F600);
-    assert_eq!(rt; combine_surrogate_pair(0xDBFF, 0xDFFF), 0x10FFFF);
+    assert_eq!(rt;
+        [
+            combine_surrogate_pair(0xD800, 0xDC00),
+            combine_surrogate_pair(0xD83D, 0xDE00),
+            combine_surrogate_pair(0xDBFF, 0xDFFF),
+        ],
+        [0x10000, 0x1F600, 0x10FFFF]
+    );
 }

@@ -34,17 +34,15 @@ fn moved_over<L: Ledger>(alloc: Global, blank: Blank) -> Result<u64, Fail>
     let mut tally = Tally::<L>::new(blank);
     reader.advance_counted(&mut tally);
     reader.skip_counted(2, &mut tally);
-    if reader.eat_counted('e', &mut tally) || !reader.eat_counted('d', &mut tally) {
-        return Err(Fail::new("d stands next"));
-    }
-    if !reader.eat2_counted('e', 'f', &mut tally) {
-        return Err(Fail::new("ef stands next"));
-    }
-    if !reader.eat3_counted('g', 'h', 'i', &mut tally) {
-        return Err(Fail::new("ghi stands next"));
-    }
-    if !reader.eat4_counted('j', 'k', 'l', 'm', &mut tally) {
-        return Err(Fail::new("jklm stands next"));
+    let eaten = [
+        reader.eat_counted('e', &mut tally),
+        reader.eat_counted('d', &mut tally),
+        reader.eat2_counted('e', 'f', &mut tally),
+        reader.eat3_counted('g', 'h', 'i', &mut tally),
+        reader.eat4_counted('j', 'k', 'l', 'm', &mut tally),
+    ];
+    if eaten != [false, true, true, true, true] {
+        return Err(Fail::new("other units stand next"));
     }
     Ok(tally.total())
 }

@@ -66,15 +66,30 @@ fn modifiers_are_sets_of_bits(rt: HostRuntime) -> Result<(), Fail> {
 
 #[test]
 fn bits_of_modifiers(rt: HostRuntime) {
-    assert_eq!(rt; Modifier::from_bits(7), Some(Modifier::all()));
-    assert_eq!(rt; Modifier::from_bits(8), None);
-    assert_eq!(rt; Modifier::from_bits(9), None);
-    assert_eq!(rt; Modifier::from_bits_truncate(9), Modifier::I);
+    assert_eq!(rt;
+        [
+            Modifier::from_bits(7),
+            Modifier::from_bits(8),
+            Modifier::from_bits(9)
+        ],
+        [Some(Modifier::all()), None, None]
+    );
+    assert_eq!(rt;
+        [
+            Modifier::from_bits_truncate(9),
+            Modifier::I | Modifier::M | Modifier::S
+        ],
+        [Modifier::I, Modifier::all()]
+    );
     assert_eq!(rt; Modifier::from_bits_truncate(0b1101).bits(), 0b101);
-    assert!(rt; Modifier::from_bits_retain(0b1111).is_all());
-    assert!(rt; !Modifier::from_bits_retain(0b1000).is_empty());
-    assert!(rt; Modifier::empty().is_empty());
-    assert!(rt; Modifier::I | Modifier::M | Modifier::S == Modifier::all());
+    assert_eq!(rt;
+        [
+            Modifier::from_bits_retain(0b1111).is_all(),
+            Modifier::from_bits_retain(0b1000).is_empty(),
+            Modifier::empty().is_empty(),
+        ],
+        [true, false, true]
+    );
 }
 
 #[test]
@@ -86,14 +101,17 @@ fn a_clone_has_the_same_spans_and_values(rt: HostRuntime) -> Result<(), OutOfMem
     let Some(Term::Quantifier(quantifier)) = only_term(&copy.body) else {
         panic!(rt; "the quantifier is lost");
     };
-    assert_eq!(rt; quantifier.span, Span::new(0, 17));
-    assert_eq!(rt; quantifier.min, 2);
-    assert_eq!(rt; quantifier.max, Some(3));
-    assert!(rt; !quantifier.greedy);
+    assert_eq!(rt;
+        [quantifier.span, quantifier.body.span()],
+        [Span::new(0, 17), Span::new(0, 11)]
+    );
+    assert_eq!(rt;
+        (quantifier.min, quantifier.max, quantifier.greedy),
+        (2, Some(3), false)
+    );
     let Term::CapturingGroup(group) = &quantifier.body else {
         panic!(rt; "the group is lost");
     };
-    assert_eq!(rt; quantifier.body.span(), Span::new(0, 11));
     let Some(name) = &group.name else {
         panic!(rt; "the name is lost");
     };
@@ -101,9 +119,10 @@ fn a_clone_has_the_same_spans_and_values(rt: HostRuntime) -> Result<(), OutOfMem
     let Some(Term::CharacterClass(class)) = only_term(&group.body) else {
         panic!(rt; "the class is lost");
     };
-    assert_eq!(rt; class.span, Span::new(5, 10));
-    assert!(rt; !class.negative);
-    assert_eq!(rt; class.kind, CharacterClassContentsKind::Union);
+    assert_eq!(rt;
+        (class.span, class.negative, class.kind),
+        (Span::new(5, 10), false, CharacterClassContentsKind::Union)
+    );
     let Some(CharacterClassContents::CharacterClassRange(range)) = class.body.get(0) else {
         panic!(rt; "the range is lost");
     };
@@ -131,13 +150,23 @@ fn content_leaves_out_spans_alone(rt: HostRuntime) -> Result<(), OutOfMemory> {
 #[test]
 fn content_of_characters_has_their_kind(rt: HostRuntime) {
     let character = symbol(0, 97);
-    assert!(rt; character.content_eq(&symbol(5, 97)));
-    assert!(rt; !character.content_eq(&symbol(0, 98)));
     let mut escaped = character;
     escaped.kind = CharacterKind::HexadecimalEscape;
-    assert!(rt; !character.content_eq(&escaped));
-    assert!(rt; Modifier::I.content_eq(&Modifier::from_bits_retain(0b1001)));
-    assert!(rt; !Modifier::I.content_eq(&Modifier::M));
+    assert_eq!(rt;
+        [
+            character.content_eq(&symbol(5, 97)),
+            character.content_eq(&symbol(0, 98)),
+            character.content_eq(&escaped),
+        ],
+        [true, false, false]
+    );
+    assert_eq!(rt;
+        [
+            Modifier::I.content_eq(&Modifier::from_bits_retain(0b1001)),
+            Modifier::I.content_eq(&Modifier::M),
+        ],
+        [true, false]
+    );
 }
 
 #[test]
@@ -145,9 +174,14 @@ fn content_of_names(rt: HostRuntime) -> Result<(), OutOfMemory> {
     let name = Some(Text::from_str(rt.alloc(), "n")?);
     let same = Some(Text::from_str(rt.alloc(), "n")?);
     let other = Some(Text::from_str(rt.alloc(), "m")?);
-    assert!(rt; name.content_eq(&same));
-    assert!(rt; !name.content_eq(&other));
-    assert!(rt; !name.content_eq(&None));
+    assert_eq!(rt;
+        [
+            name.content_eq(&same),
+            name.content_eq(&other),
+            name.content_eq(&None)
+        ],
+        [true, false, false]
+    );
     Ok(())
 }
 

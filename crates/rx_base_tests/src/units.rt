@@ -47,35 +47,40 @@ fn a_pair_apart(rt: HostRuntime) -> Result<(), Fail> {
         .ok_or("memory")?;
     let units = body.as_slice();
     assert_eq!(rt; units.len(), 2);
-    assert_eq!(rt; parts_of(&units[0]), (10, 14, 0xD83D, EscapeKind::Unicode));
-    assert_eq!(rt; parts_of(&units[1]), (10, 14, 0xDE00, EscapeKind::Unicode));
+    assert_eq!(rt;
+        [parts_of(&units[0]), parts_of(&units[1])],
+        [
+            (10, 14, 0xD83D, EscapeKind::Unicode),
+            (10, 14, 0xDE00, EscapeKind::Unicode)
+        ]
+    );
     Ok(())
 }
 
 #[test]
 fn what_is_next(rt: HostRuntime) -> Result<(), Fail> {
     let mut reader = Reader::initialize(rt.alloc(), "ab", false, false)?;
-    assert_eq!(rt; reader.checkpoint(), (0, 0));
-    assert_eq!(rt; reader.peek(), Some(0x61));
-    assert_eq!(rt; reader.peek2(), Some(0x62));
-    assert_eq!(rt; reader.peek_escape_kind(), EscapeKind::None);
+    assert_eq!(rt;
+        (reader.checkpoint(), reader.peek_escape_kind()),
+        ((0, 0), EscapeKind::None)
+    );
+    assert_eq!(rt; [reader.peek(), reader.peek2()], [Some(0x61), Some(0x62)]);
     assert_eq!(rt; reader.remaining_code_points().len(), 2);
     reader.skip(3);
-    assert_eq!(rt; reader.checkpoint(), (2, 2));
+    assert_eq!(rt;
+        (reader.checkpoint(), reader.peek_escape_kind()),
+        ((2, 2), EscapeKind::None)
+    );
     assert_eq!(rt; reader.peek(), None);
-    assert_eq!(rt; reader.peek_escape_kind(), EscapeKind::None);
-    assert!(rt; reader.contains('a'));
-    assert!(rt; !reader.contains('c'));
+    assert_eq!(rt; [reader.contains('a'), reader.contains('c')], [true, false]);
     Ok(())
 }
 
 #[test]
 fn one_by_one(rt: HostRuntime) -> Result<(), Fail> {
     let mut reader = Reader::initialize(rt.alloc(), "ab", false, false)?;
-    assert!(rt; reader.eat('a'));
-    assert_eq!(rt; reader.offset(), 1);
-    assert!(rt; !reader.eat('a'));
-    assert_eq!(rt; reader.peek2(), None);
+    assert_eq!(rt; (reader.eat('a'), reader.offset()), (true, 1));
+    assert_eq!(rt; (reader.eat('a'), reader.peek2()), (false, None));
     assert!(rt; reader.eat('b'));
     reader.advance();
     assert_eq!(rt; reader.checkpoint(), (2, 2));
@@ -89,20 +94,23 @@ fn back_to_a_checkpoint(rt: HostRuntime) -> Result<(), Fail> {
     reader.advance();
     assert_eq!(rt; reader.code_points_since(start).len(), 1);
     reader.rewind(start);
-    assert!(rt; !reader.eat2('a', 'a'));
-    assert!(rt; reader.eat2('a', 'b'));
+    assert_eq!(rt;
+        [reader.eat2('a', 'a'), reader.eat2('a', 'b')],
+        [false, true]
+    );
     Ok(())
 }
 
 #[test]
 fn runs_are_eaten_whole(rt: HostRuntime) -> Result<(), Fail> {
     let mut reader = Reader::initialize(rt.alloc(), "abcabcd", true, false)?;
-    assert!(rt; !reader.eat3('a', 'b', 'd'));
-    assert!(rt; reader.eat3('a', 'b', 'c'));
-    assert_eq!(rt; reader.offset(), 3);
-    assert!(rt; !reader.eat4('a', 'b', 'c', 'e'));
-    assert!(rt; reader.eat4('a', 'b', 'c', 'd'));
-    assert_eq!(rt; reader.offset(), 7);
+    let three = [reader.eat3('a', 'b', 'd'), reader.eat3('a', 'b', 'c')];
+    assert_eq!(rt; (three, reader.offset()), ([false, true], 3));
+    let four = [
+        reader.eat4('a', 'b', 'c', 'e'),
+        reader.eat4('a', 'b', 'c', 'd'),
+    ];
+    assert_eq!(rt; (four, reader.offset()), ([false, true], 7));
     Ok(())
 }
 
@@ -114,16 +122,15 @@ fn ascii_from_its_bytes(rt: HostRuntime) -> Result<(), Fail> {
     }
     let mut reader = Reader::of_ascii(text);
     assert_eq!(rt; reader.peek(), Some(0x61));
-    assert!(rt; !reader.eat('-'));
-    assert!(rt; reader.eat('a'));
-    assert_eq!(rt; reader.checkpoint(), (1, 1));
+    let eaten = [reader.eat('-'), reader.eat('a')];
+    assert_eq!(rt; (eaten, reader.checkpoint()), ([false, true], (1, 1)));
     let ahead = reader.ahead();
-    assert_eq!(rt; ahead.len(), 2);
-    assert_eq!(rt; ahead.first(), Some(0x2D));
-    assert_eq!(rt; ahead.escape_kind(), EscapeKind::None);
+    assert_eq!(rt;
+        (ahead.len(), ahead.first(), ahead.escape_kind()),
+        (2, Some(0x2D), EscapeKind::None)
+    );
     reader.skip(7);
-    assert_eq!(rt; reader.offset(), 3);
-    assert!(rt; reader.ahead().is_empty());
+    assert_eq!(rt; (reader.offset(), reader.ahead().is_empty()), (3, true));
     Ok(())
 }
 
@@ -136,10 +143,11 @@ fn units_ahead(rt: HostRuntime) -> Result<(), Fail> {
     if ahead.len() < 2 {
         return Err(Fail::new("too few"));
     }
-    assert_eq!(rt; ahead.end_of(1), 6);
-    assert_eq!(rt; ahead.end_of(2), 7);
-    assert_eq!(rt; ahead.from(1).first(), Some(0x62));
-    assert_eq!(rt; ahead.front(1).len(), 1);
+    assert_eq!(rt; [ahead.end_of(1), ahead.end_of(2)], [6, 7]);
+    assert_eq!(rt;
+        (ahead.from(1).first(), ahead.front(1).len()),
+        (Some(0x62), 1)
+    );
     assert!(rt; ahead.after('b').is_none());
     let Some((value, following)) = ahead.split_first() else {
         return Err(Fail::new("no unit"));
@@ -180,9 +188,9 @@ fn places_of_wide_characters(rt: HostRuntime) -> Result<(), Fail> {
     for (unicode_mode, wanted) in [(true, joined), (false, parted)] {
         let mut reader = Reader::initialize(rt.alloc(), "é\u{20AC}\u{1F600}", unicode_mode, false)?;
         for (value, end) in wanted {
-            assert_eq!(rt; reader.peek(), Some(*value));
+            let next = reader.peek();
             reader.advance();
-            assert_eq!(rt; reader.offset(), *end);
+            assert_eq!(rt; (next, reader.offset()), (Some(*value), *end));
         }
         assert_eq!(rt; reader.peek(), None);
     }
@@ -204,9 +212,15 @@ fn characters_of_string_literals(rt: HostRuntime) {
     ] {
         for ch in characters.chars() {
             let code = ch as u32;
-            assert_eq!(rt; is_line_terminator(ch), line_terminator, "at {code}");
-            assert_eq!(rt; is_single_escape_character(ch), single_escape, "at {code}");
-            assert_eq!(rt; is_non_escape_character(ch), non_escape, "at {code}");
+            assert_eq!(rt;
+                [
+                    is_line_terminator(ch),
+                    is_single_escape_character(ch),
+                    is_non_escape_character(ch),
+                ],
+                [line_terminator, single_escape, non_escape],
+                "at {code}"
+            );
         }
     }
     assert_eq!(rt;
