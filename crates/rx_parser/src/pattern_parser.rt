@@ -91,7 +91,7 @@ impl<'a, S: UnitSource + 'a> PatternParser<'a, S> {
         };
         first_pass(&mut state, &mut reader, &spans, steps)?;
         let start = here(&reader, &spans);
-        let capacity = reader.ahead().len().min(TERMS_RESERVED);
+        let capacity = first_capacity(&reader);
         let builder = Builder::with_capacity(alloc, mode, rules, start, capacity)?;
         let parse = Parse {
             alloc,
@@ -152,6 +152,17 @@ fn first_pass<S: UnitSource, C: Counter>(
             }))
         }
     }
+}
+
+/// For how many terms memory is taken before the first: none where a class stands first, which often is all of the pattern, or refused.
+fn first_capacity<S: UnitSource>(reader: &Reader<'_, S>) -> usize
+    ensures { result ≤ 16 }
+{
+    let units = reader.ahead();
+    if units.first() == Some('[' as u32) {
+        return 0;
+    }
+    units.len().min(TERMS_RESERVED)
 }
 
 /// For how many terms memory is taken at once: most patterns have no more outside groups.

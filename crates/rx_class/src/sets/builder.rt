@@ -105,10 +105,10 @@ impl ClassBuilder {
         let Some(around) = self.outer.pop() else {
             unreachable!();
         };
-        let Some(held) = around.held.with_operand() else {
+        let closed = std::mem::replace(&mut self.inner, around);
+        let Some(held) = self.inner.held.with_operand() else {
             unreachable!();
         };
-        let closed = std::mem::replace(&mut self.inner, around);
         let strings = closed.strings;
         let class = Box::new(alloc, closed.finish(end))?;
         let contents = CharacterClassContents::NestedCharacterClass(class);

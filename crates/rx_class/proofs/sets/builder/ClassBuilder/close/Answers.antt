@@ -21,7 +21,7 @@ pub push-requires-clause-held : goal.push-requires-clause-held
 push-requires-clause-held c =
     ap (λ m. with_member m (mirror_held c.replace-closed.new.dest.held))
     (closed_mirror c.in_ok-class.class _ _ c.args.self.now.inner c.args.end c.in_ok-class.ensures.ok c.finish.ensures c.replace-closed.ensures.value)
-    ∙ ap (λ b. operand (mirror_held b.held)) c.replace-closed.ensures.after ∙ sym c.with_operand.ensures ∙ ap (option_map mirror_held) c.in-Some-with_operand.is
+    ∙ sym c.with_operand.ensures ∙ ap (option_map mirror_held) c.in-Some-with_operand.is
 
 pub returns-clause-events : goal.returns-clause-events
 returns-clause-events c =
