@@ -112,6 +112,8 @@ impl ClassBuilder {
         let strings = closed.strings;
         let class = Box::new(alloc, closed.finish(end))?;
         let contents = CharacterClassContents::NestedCharacterClass(class);
+        // A bracket that holds a nested one first often holds no more.
+        self.inner.reserve_one()?;
         self.inner.push(contents, strings, held)
     }
 

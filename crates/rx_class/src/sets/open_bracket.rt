@@ -47,6 +47,17 @@ impl OpenBracket {
         }
     }
 
+    /// Takes memory for one operand alone, where nothing is held.
+    #[inline(always)]
+    pub fn reserve_one(&mut self) -> Result<(), OutOfMemory>
+        ensures { self.new ≡ self.old }
+    {
+        if self.body.is_empty() {
+            self.body = List::with_capacity(self.body.allocator(), 1)?;
+        }
+        Ok(())
+    }
+
     /// Adds an operand or a range, which may match strings or not. After it the bracket holds `held`.
     #[inline(always)]
     pub fn push(
