@@ -91,9 +91,10 @@ impl ClassBuilder {
         self.outer.is_empty()
     }
 
-    /// Closes the innermost bracket, which ends before the byte `end`: it is an operand of the one around it.
+    /// Closes the innermost bracket, which ends before the byte `end`: it is an operand of the one around it. Where that one ends with it (`last`),
+    /// less memory is taken.
     #[inline(always)]
-    pub fn close(&mut self, alloc: Global, end: u32) -> Result<(), OutOfMemory>
+    pub fn close(&mut self, alloc: Global, end: u32, last: bool) -> Result<(), OutOfMemory>
         requires well { IsWellBuilt self.old }
         requires nested { self.old.outer ≢ [] }
         requires whole { is_whole (mirror_held self.old.inner.held) ≡ true }
@@ -105,6 +106,7 @@ impl ClassBuilder {
         let Some(around) = self.outer.pop() else {
             unreachable!();
         };
+        // Moved before a field of it is read: docs/DECISIONS.md, 129.
         let closed = std::mem::replace(&mut self.inner, around);
         let Some(held) = self.inner.held.with_operand() else {
             unreachable!();
@@ -112,8 +114,7 @@ impl ClassBuilder {
         let strings = closed.strings;
         let class = Box::new(alloc, closed.finish(end))?;
         let contents = CharacterClassContents::NestedCharacterClass(class);
-        // A bracket that holds a nested one first often holds no more.
-        self.inner.reserve_one()?;
+        self.inner.reserve_operand(last)?;
         self.inner.push(contents, strings, held)
     }
 

@@ -47,12 +47,12 @@ impl OpenBracket {
         }
     }
 
-    /// Takes memory for one operand alone, where nothing is held.
+    /// Takes memory for the first operand alone, where it is the last one too.
     #[inline(always)]
-    pub fn reserve_one(&mut self) -> Result<(), OutOfMemory>
+    pub fn reserve_operand(&mut self, last: bool) -> Result<(), OutOfMemory>
         ensures { self.new ≡ self.old }
     {
-        if self.body.is_empty() {
+        if last && self.body.is_empty() {
             self.body = List::with_capacity(self.body.allocator(), 1)?;
         }
         Ok(())

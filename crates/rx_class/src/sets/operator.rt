@@ -86,7 +86,8 @@ impl<S: UnitSource, C: Counter> Reading<'_, '_, '_, '_, '_, S, C> {
         ensures on { ReadsOn self.old self.new }
     {
         self.advance();
-        builder.close(self.alloc, self.here().start)
+        let last = self.peek() == Some(']' as u32);
+        builder.close(self.alloc, self.here().start, last)
     }
 }
 

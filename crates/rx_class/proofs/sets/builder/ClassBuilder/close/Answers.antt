@@ -19,7 +19,7 @@ push-requires-clause-strings c =
 
 pub push-requires-clause-held : goal.push-requires-clause-held
 push-requires-clause-held c =
-    ap (λ b. with_member (mirror_contents (NestedCharacterClass c.in_ok-class.class)) (mirror_held b.held)) c.reserve_one.ensures
+    ap (λ b. with_member (mirror_contents (NestedCharacterClass c.in_ok-class.class)) (mirror_held b.held)) c.reserve_operand.ensures
     ∙ ap (λ m. with_member m (mirror_held c.replace-closed.new.dest.held))
     (closed_mirror c.in_ok-class.class _ _ c.args.self.now.inner c.args.end c.in_ok-class.ensures.ok c.finish.ensures c.replace-closed.ensures.value)
     ∙ sym c.with_operand.ensures ∙ ap (option_map mirror_held) c.in-Some-with_operand.is
@@ -32,7 +32,7 @@ returns-clause-events c =
     on_ok_weaker c.push.result
     (λ e. close_events b c.pop.new.self around c.in-Some.ensures c.push.new.self (class_events (class_of b.inner c.args.end)) _
     (closed_events b.inner c.args.end c.requires.whole c.requires.well.inner)
-    (e ∙ ap (λ f. bracket_events f ++ member_events m) (c.reserve_one.ensures ∙ c.replace-closed.ensures.after)
+    (e ∙ ap (λ f. bracket_events f ++ member_events m) (c.reserve_operand.ensures ∙ c.replace-closed.ensures.after)
     ∙ ap (λ k. bracket_events around ++ member_events k) (closed_mirror c.in_ok-class.class _ _ b.inner c.args.end c.in_ok-class.ensures.ok c.finish.ensures c.replace-closed.ensures.value)))
     c.push.ensures.events
 
