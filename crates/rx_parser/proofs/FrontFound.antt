@@ -33,15 +33,14 @@ read_none e [] none = refl
 read_none e (u ∷ us) none = absurd (let no : ⊥ = cc none in no)
 
 -- what the ExtendedPatternCharacter of B.1.2 leaves out stands for itself in no mode
-never_raw : (mode : Mode) (c : ℕ) → is_legacy_syntax c ≡ true → stands_raw mode c ≡ false
-never_raw Legacy c h = ap not h
-never_raw Unicode c h = ap not (legacy_syntax c h)
-never_raw Sets c h = ap not (legacy_syntax c h)
+never_raw : (mode : Mode) (c : ℕ) (alone : Bool) → is_legacy_syntax c ≡ true → (stands_raw mode c && alone) ≡ false
+never_raw Legacy c alone h = ap (λ syntax. not syntax && alone) h
+never_raw Unicode c alone h = ap (λ syntax. not syntax && alone) (legacy_syntax c h)
+never_raw Sets c alone h = ap (λ syntax. not syntax && alone) (legacy_syntax c h)
 
 pub read_by_first : (e : Environment) (us : List CodePoint) (c : ℕ) (w : List ℕ) → values us ≡ c ∷ w → is_legacy_syntax c ≡ true → front_read e us ≡ read_after e c w
 read_by_first e us c w whole legacy =
-    let raw : is_raw_at e c w ≡ false = ap (λ b. b && (is_unicode e.mode || not (are_counts (counts_at (c ∷ w))))) (never_raw e.mode c legacy) in
-    read_by_values e us c w whole ∙ cond-false (is_raw_at e c w) _ _ raw
+    read_by_values e us c w whole ∙ cond-false (is_raw_at e c w) _ _ (never_raw e.mode c (is_unicode e.mode || not (are_counts (counts_at (c ∷ w)))) legacy)
 
 -- What is no SyntaxCharacter stands for itself in every mode, whatever follows.
 plain_stands : (mode : Mode) (c : ℕ) → is_syntax_character c ≡ false → stands_raw mode c ≡ true

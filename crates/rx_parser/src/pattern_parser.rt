@@ -1,4 +1,5 @@
 ghost use Rattle.std.specs.Prelude.{◌≡◌, Bool, ◌+◌, ◌*◌, ◌<◌, ◌≤◌, ◌^◌, All, IfErr, IfOk, OnOk, length};
+ghost use Rattle.rx_units.specs.Cursor.{rest};
 ghost use Rattle.rx_scan.specs.StateFaults.{mode_of_state};
 ghost use Rattle.rx_class.specs.Fitting.{AreFitting};
 ghost use Rattle.rx_parser.specs.Parsing.{AnswersParser, HoldsPass, IsRefused, IsWhole, rules_of_state};
@@ -154,9 +155,10 @@ fn first_pass<S: UnitSource, C: Counter>(
     }
 }
 
-/// For how many terms memory is taken before the first: none where a class stands first, which often is all of the pattern, or refused.
+/// For how many terms memory is taken before the first is read: for none where a class stands first, which often is all of the pattern.
 fn first_capacity<S: UnitSource>(reader: &Reader<'_, S>) -> usize
-    ensures { result ≤ 16 }
+    ensures few { result ≤ 16 }
+    ensures within { result ≤ length (rest reader.now) }
 {
     let units = reader.ahead();
     if units.first() == Some('[' as u32) {
