@@ -32,11 +32,11 @@ unfolding front_read
 read_none e [] none = refl
 read_none e (u ∷ us) none = absurd (let no : ⊥ = cc none in no)
 
--- what the ExtendedPatternCharacter of B.1.2 leaves out stands for itself in no mode
-never_raw : (mode : Mode) (c : ℕ) (alone : Bool) → is_legacy_syntax c ≡ true → (stands_raw mode c && alone) ≡ false
-never_raw Legacy c alone h = ap (λ syntax. not syntax && alone) h
-never_raw Unicode c alone h = ap (λ syntax. not syntax && alone) (legacy_syntax c h)
-never_raw Sets c alone h = ap (λ syntax. not syntax && alone) (legacy_syntax c h)
+-- what the ExtendedPatternCharacter of B.1.2 leaves out stands for itself in no mode, whatever else is asked of it
+never_raw : (mode : Mode) (c : ℕ) (other : Bool) → is_legacy_syntax c ≡ true → (stands_raw mode c && other) ≡ false
+never_raw Legacy c other h = ap (λ syntax. not syntax && other) h
+never_raw Unicode c other h = ap (λ syntax. not syntax && other) (legacy_syntax c h)
+never_raw Sets c other h = ap (λ syntax. not syntax && other) (legacy_syntax c h)
 
 pub read_by_first : (e : Environment) (us : List CodePoint) (c : ℕ) (w : List ℕ) → values us ≡ c ∷ w → is_legacy_syntax c ≡ true → front_read e us ≡ read_after e c w
 read_by_first e us c w whole legacy =

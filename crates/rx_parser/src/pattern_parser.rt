@@ -155,7 +155,7 @@ fn first_pass<S: UnitSource, C: Counter>(
     }
 }
 
-/// For how many terms memory is taken before the first is read: for none where a class stands first, which often is all of the pattern.
+/// For how many terms memory is taken before any is read: for none where a class stands first, since it is often the whole pattern.
 fn first_capacity<S: UnitSource>(reader: &Reader<'_, S>) -> usize
     ensures few { result ≤ 16 }
     ensures within { result ≤ length (rest reader.now) }
@@ -167,7 +167,7 @@ fn first_capacity<S: UnitSource>(reader: &Reader<'_, S>) -> usize
     units.len().min(TERMS_RESERVED)
 }
 
-/// For how many terms memory is taken at once: most patterns have no more outside groups.
+/// For how many terms memory is taken at most before any is read: most patterns have no more outside groups.
 const TERMS_RESERVED: usize = 16;
 
 /// The tree of a text of which nothing is read yet, and whose groups are counted.

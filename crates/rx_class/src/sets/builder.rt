@@ -91,8 +91,8 @@ impl ClassBuilder {
         self.outer.is_empty()
     }
 
-    /// Closes the innermost bracket, which ends before the byte `end`: it is an operand of the one around it. Where that one ends with it (`last`),
-    /// less memory is taken.
+    /// Closes the innermost bracket, which ends before the byte `end`: it is an operand of the one around it. `last` says that a `]` stands next, so that
+    /// the one around it takes no more. It decides only how much memory is taken.
     #[inline(always)]
     pub fn close(&mut self, alloc: Global, end: u32, last: bool) -> Result<(), OutOfMemory>
         requires well { IsWellBuilt self.old }
@@ -106,7 +106,7 @@ impl ClassBuilder {
         let Some(around) = self.outer.pop() else {
             unreachable!();
         };
-        // Moved before a field of it is read: docs/DECISIONS.md, 129.
+        // Why: docs/DECISIONS.md, 129.
         let closed = std::mem::replace(&mut self.inner, around);
         let Some(held) = self.inner.held.with_operand() else {
             unreachable!();

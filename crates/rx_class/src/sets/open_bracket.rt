@@ -47,7 +47,7 @@ impl OpenBracket {
         }
     }
 
-    /// Takes memory for the first operand alone, where it is the last one too.
+    /// Takes memory for one operand alone, where none is held yet and the next one is the `last`. Otherwise the first operand takes memory for four.
     #[inline(always)]
     pub fn reserve_operand(&mut self, last: bool) -> Result<(), OutOfMemory>
         ensures { self.new ≡ self.old }
