@@ -120,7 +120,9 @@ enum { TB_MODIFIER_I = 1, TB_MODIFIER_M = 2, TB_MODIFIER_S = 4 };
 
 /* From the place `start` to before the place `end`. Places in the pattern and in the flags count bytes of that text, or its UTF-16 code units where tb_options.utf16 asks
  * for them, and the offset of the text is added to each. Places in tb_reading.texts count bytes. An empty pattern is read as (?:), in the form TB_CONSTRUCTOR with quotes,
- * and its nodes have the places of that text: look for them there, since the pattern given has no such bytes. */
+ * and its nodes have the places of that text: look for them there, since the pattern given has no such bytes. With tb_options.standard_strings an argument of line
+ * continuations alone is read so too: in bytes its nodes have the places of "(?:)", and with tb_options.utf16 these are counted in the argument itself, where a byte past
+ * its end counts as one unit. */
 typedef struct tb_range {
     uint32_t start, end;
 } tb_range;
