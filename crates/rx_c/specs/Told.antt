@@ -102,7 +102,7 @@ pub record ShowsCause (utf16 : Bool) (input : Input) (field : Field) (cause : Di
   pub name : refusal.name.now ≡ name_of cause ++ 0 ∷ []
   pub kind : refusal.kind.now ≡ optional_with_nul (kind_of cause)
   pub message : refusal.message.now ≡ encode_utf8_all (message_of cause) ++ 0 ∷ []
-  pub help : refusal.help.now ≡ optional_with_nul (help_at (encode_utf8_all (text_in input field)) (offset_in input field) cause)
+  pub help : refusal.help.now ≡ optional_with_nul (help_at input.form (encode_utf8_all (text_in input field)) (offset_in input field) cause)
   pub values : refusal.values.now ≡ ranges_at 0 (each_bytes (texts_of cause))
   pub field_is : refusal.field ≡ field_code field
   pub span_count : refusal.span_count ≡ count_of_spans (second_span_of cause)

@@ -20,6 +20,7 @@ use rx_base::{Diagnostic, OutOfMemory};
 use rx_places::Places;
 use rx_records::{Range, Records};
 use rx_refusal::{Field, field_of, help_for, kind_of, max_of, offset_in, text_in, texts_of};
+use rx_tools::Form;
 use std::alloc::Global;
 
 /// The texts that are told of a refusal, each in a block of its own.
@@ -70,7 +71,7 @@ fn refusal_in<'a>(
 {
     let text = text_in(&it.input, field);
     let offset = offset_in(&it.input, field);
-    let words = words_of(alloc, text, offset, cause)?;
+    let words = words_of(alloc, it.input.form, text, offset, cause)?;
     let places = Places::new(alloc, text, offset)?;
     let utf16 = it.wants.utf16;
     let second = cause.second_span();
@@ -91,6 +92,7 @@ fn refusal_in<'a>(
 
 fn words_of(
     alloc: Global,
+    form: Form,
     text: &str,
     offset: u32,
     cause: &Diagnostic,
@@ -98,14 +100,14 @@ fn words_of(
     ensures name { IfOk result (λ words. words.name.items ≡ name_of cause.now ++ 0 ∷ []) }
     ensures kind { IfOk result (λ words. words.kind.items ≡ optional_with_nul (kind_of cause.now)) }
     ensures message { IfOk result (λ words. words.message.items ≡ encode_utf8_all (message_of cause.now) ++ 0 ∷ []) }
-    ensures help { IfOk result (λ words. words.help.items ≡ optional_with_nul (help_at text.now offset cause.now)) }
+    ensures help { IfOk result (λ words. words.help.items ≡ optional_with_nul (help_at form text.now offset cause.now)) }
 {
     let message = format!(in alloc; "{cause}")?;
     Ok(Words {
         name: with_nul(alloc, cause.name().as_bytes())?,
         kind: optional_with_nul(alloc, kind_of(cause))?,
         message: with_nul(alloc, message.as_bytes())?,
-        help: optional_with_nul(alloc, help_for(text, offset, cause))?,
+        help: optional_with_nul(alloc, help_for(form, text, offset, cause))?,
     })
 }
 

@@ -7,6 +7,7 @@ use Rattle.rx_base.specs.declared.diagnostic.Diagnostic.{Diagnostic}
 use Rattle.rx_base.specs.declared.diagnostic.Diagnostic.TheVariants.{UnknownFlag, DuplicatedFlags, InvalidIndexedReference, InvalidNamedReference, InvalidUnicodePropertyNameNegativeStrings, InvalidUnicodePropertyOfStrings}
 use Rattle.rx_base.specs.Diagnostic.{name_of, first_span_of, second_span_of}
 use Rattle.rx_base.specs.DiagnosticMessage.{flag_text, message_of}
+use Rattle.rx_model.specs.declared.form.Form.{Form}
 use Rattle.rx_refusal.specs.declared.field.Field.{Field as Texts}
 use Rattle.rx_refusal.specs.Fields.{field_name}
 use Rattle.rx_refusal.specs.Helps.{help_at}
@@ -32,9 +33,9 @@ second_spans place (Some span) = object_of (place span) ∷ []
 abbrev pub spans_of : (Span → List Field) → Diagnostic → json.Json
 spans_of place refusal = list_of (object_of (place (first_span_of refusal)) ∷ second_spans place (second_span_of refusal))
 
--- All that is told of a refusal whose spans lie in a text of these bytes, so much being added to each place.
-abbrev pub refusal_fields : List ℕ → ℕ → Texts → Diagnostic → List Field
-refusal_fields bytes offset field refusal =
+-- All that is told of a refusal whose spans lie in a text of these bytes, in this form, so much being added to each place.
+abbrev pub refusal_fields : Form → List ℕ → ℕ → Texts → Diagnostic → List Field
+refusal_fields form bytes offset field refusal =
     (codes "name", json.string (name_of refusal)) ∷ (codes "kind", bytes_or_null (kind_of refusal)) ∷ (codes "values", object_of (values_of refusal))
     ∷ (codes "message", text (message_of refusal)) ∷ (codes "field", json.string (field_name field)) ∷ (codes "spans", spans_of (place_fields (chars bytes) offset) refusal)
-    ∷ (codes "help", bytes_or_null (help_at bytes offset refusal)) ∷ []
+    ∷ (codes "help", bytes_or_null (help_at form bytes offset refusal)) ∷ []

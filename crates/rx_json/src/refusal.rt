@@ -11,19 +11,21 @@ use crate::member::{write_place, write_text, write_text_or_null};
 use crate::values::write_values;
 use json::Writer;
 use rx_base::{Diagnostic, OutOfMemory, Span};
+use rx_model::Form;
 use rx_places::Places;
 use rx_refusal::{Field, help_for, kind_of};
 use std::alloc::Global;
 
-/// Writes the members that tell of a refusal. The places are those of the text in which its spans lie.
+/// Writes the members that tell of a refusal. The places are those of the text in which its spans lie, which stands in this form.
 pub fn write_refusal(
     alloc: Global,
     writer: &mut Writer,
     places: &Places<'_>,
+    form: Form,
     field: Field,
     refusal: &Diagnostic,
 ) -> Result<(), OutOfMemory>
-    ensures { OnOk result (Adds writer.old writer.new (field_tokens (refusal_fields places.now.text.now places.now.offset field refusal.now))) }
+    ensures { OnOk result (Adds writer.old writer.new (field_tokens (refusal_fields form places.now.text.now places.now.offset field refusal.now))) }
 {
     write_text(writer, "name", refusal.name())?;
     write_text_or_null(writer, "kind", kind_of(refusal))?;
@@ -37,7 +39,7 @@ pub fn write_refusal(
     write_text_or_null(
         writer,
         "help",
-        help_for(places.text, places.offset, refusal),
+        help_for(form, places.text, places.offset, refusal),
     )
 }
 

@@ -80,7 +80,7 @@ read_fields input want mode pattern =
 
 -- what is told of a refusal whose spans lie in this text of the input
 abbrev pub refused_fields : Input → Side → Diagnostic → List Field
-refused_fields input side refusal = refusal_fields (encode_utf8_all (text_in input side)) (offset_in input side) side refusal
+refused_fields input side refusal = refusal_fields input.form (encode_utf8_all (text_in input side)) (offset_in input side) side refusal
 
 -- ---- a line that is no request
 

@@ -178,7 +178,7 @@ fn write_refused(
     let field = field_of(alloc, &input, refusal)?;
     let text = text_in(&input, field);
     let places = Places::new(alloc, text, offset_in(&input, field))?;
-    write_refusal(alloc, writer, &places, field, refusal)
+    write_refusal(alloc, writer, &places, input.form, field, refusal)
 }
 
 fn mode_name(mode: Mode) -> &'static str

@@ -1,4 +1,5 @@
--- What to write instead of what is refused, by what is read from the beginning and from the end of the refusal's first span on.
+-- What to write instead of what is refused, by what is read from the beginning and from the end of the refusal's first span on. The form says whether the text
+-- stands in quotes.
 use Rattle.std.specs.Prelude.{ℕ, ◌-◌, Bool, false, ◌==◌, ◌&&◌, ◌||◌, nat_eq, nat_le, List, [], ◌∷◌, drop, take, length, get_or, Option, Some, None, option_and_then, option_map, unwrap_or, codes, if◌then◌else◌}
 use Rattle.std.specs.List.{starts_with}
 use Rattle.rx_base.specs.Flags.{holds}
@@ -9,6 +10,8 @@ use Rattle.rx_base.specs.declared.diagnostic.kinds.Unterminated.{Unterminated}
 use Rattle.rx_base.specs.declared.diagnostic.kinds.Unterminated.TheVariants.{LookAround, CapturingGroup, IgnoreGroup, GroupName, PropertyEscape, CharacterClass, NestedClass, ClassStringDisjunction}
 use Rattle.rx_base.specs.declared.diagnostic.Diagnostic.{Diagnostic}
 use Rattle.rx_base.specs.declared.diagnostic.Diagnostic.TheVariants.{InvalidInput, UnknownFlag, DuplicatedFlags, InvalidUnicodeFlags, DuplicatedCapturingGroupNames, ParsePatternIncomplete, LoneQuantifier, UnterminatedPattern, InvalidExtendedAtomEscape, InvalidBracedQuantifier, EmptyGroupSpecifier, InvalidUnicodePropertyNameNegativeStrings, InvalidCharacterClass, CharacterClassRangeOutOfOrder, CharacterClassRangeDashNotSubtraction, CharacterClassRangeInvalidAtom, InvalidClassAtom, EmptyClassSetExpression, ClassIntersectionUnexpectedAmpersand, ClassSetExpressionInvalidCharacter, CharacterClassContentsInvalidOperands, BracedQuantifierOutOfOrder, InvalidUnicodePropertyOfStrings, InvalidUnicodeEscapeSequence, InvalidSurrogatePair, DuplicatedModifiers, InvalidModifiers, EmptyModifiers, UnknownModifiers}
+use Rattle.rx_model.specs.declared.form.Form.{Form}
+use Rattle.rx_model.specs.declared.form.Form.TheVariants.{Literal, Constructor}
 use Rattle.rx_refusal.specs.declared.help.ClassHelp.{ClassHelp}
 use Rattle.rx_refusal.specs.declared.help.ClassHelp.TheVariants as in_class
 use Rattle.rx_refusal.specs.declared.help.EscapeHelp.{EscapeHelp}
@@ -68,15 +71,11 @@ first_is_one_of bytes (byte ∷ rest) = holds bytes byte
 abbrev pub begins_with : List ℕ → List ℕ → Bool
 begins_with front text = starts_with nat_eq text front
 
--- a text begins and ends with the same quote
-abbrev pub is_quoted : List ℕ → Bool
-is_quoted text = first_is_one_of (codes "\"'`") text && (nat_le 2 (length text) && (get_or text 0 0 == get_or text (length text - 1) 0))
-
--- what is read from a byte of a text on, where that is known: a text in quotes ends before the closing quote, and an escape of its own is not looked at
-abbrev pub read_from : List ℕ → ℕ → Option (List ℕ)
-read_from text n =
-    if is_quoted text then (if first_is_one_of (codes "\\") (drop n text) then None else Some (take (length (drop n text) - 1) (drop n text)))
-    else Some (drop n text)
+-- what is read from a byte of a text on, where that is known: a literal has no quotes; an argument ends before its closing quote, and an escape of the string
+-- itself is not looked at
+abbrev pub read_from : Form → List ℕ → ℕ → Option (List ℕ)
+read_from Literal text n = Some (drop n text)
+read_from Constructor text n = if first_is_one_of (codes "\\") (drop n text) then None else Some (take (length (drop n text) - 1) (drop n text))
 
 -- by what stands in place of a modifier
 abbrev pub modifiers_help : List ℕ → Option Help
@@ -164,9 +163,9 @@ unterminated_help ClassStringDisjunction after = option_and_then strings_help af
 abbrev pub unicode_help : List ℕ → Help
 unicode_help front = if first_is_one_of (codes "\\") front then help.Name else help.InEscape in_escape.UnicodeEscape
 
--- by whether a text has quotes and is none the less no string
+-- by whether a text that is no string and no template begins with a quote
 abbrev pub input_help : List ℕ → Option Help
-input_help front = if first_is_one_of (codes "\"'`") front then None else Some help.Quotes
+input_help text = if first_is_one_of (codes "\"'`") text then None else Some help.Quotes
 
 -- what is the same for all refusals of a name: of classes and properties, and of all
 abbrev pub fixed_class_help : Diagnostic → Option Help
@@ -196,20 +195,20 @@ fixed_help (EmptyModifiers _) = Some help.PlainGroup
 fixed_help (InvalidExtendedAtomEscape _) = Some (help.InEscape in_escape.Backslash)
 fixed_help refusal = fixed_class_help refusal
 
--- by what is read from the beginning of the first span on, and from its end on
-abbrev pub help_of : Diagnostic → Option (List ℕ) → Option (List ℕ) → Option Help
-help_of (InvalidInput _) front after = option_and_then input_help front
-help_of (UnknownModifiers _) front after = option_and_then modifiers_help after
-help_of (ParsePatternIncomplete _) front after = option_map incomplete_help front
-help_of (UnterminatedPattern _ what) front after = unterminated_help what after
-help_of (InvalidClassAtom _) front after = option_map escape_help after
-help_of (EmptyClassSetExpression _) front after = option_and_then first_help front
-help_of (ClassSetExpressionInvalidCharacter _ what) front after = option_map (operand_help what) front
-help_of (InvalidUnicodeEscapeSequence _) front after = option_map unicode_help front
-help_of refusal front after = fixed_help refusal
+-- by what is read from the beginning of the first span on, and from its end on. An argument that is no string and no template is looked at as it stands
+abbrev pub help_of : Diagnostic → List ℕ → Option (List ℕ) → Option (List ℕ) → Option Help
+help_of (InvalidInput _) text front after = input_help text
+help_of (UnknownModifiers _) text front after = option_and_then modifiers_help after
+help_of (ParsePatternIncomplete _) text front after = option_map incomplete_help front
+help_of (UnterminatedPattern _ what) text front after = unterminated_help what after
+help_of (InvalidClassAtom _) text front after = option_map escape_help after
+help_of (EmptyClassSetExpression _) text front after = option_and_then first_help front
+help_of (ClassSetExpressionInvalidCharacter _ what) text front after = option_map (operand_help what) front
+help_of (InvalidUnicodeEscapeSequence _) text front after = option_map unicode_help front
+help_of refusal text front after = fixed_help refusal
 
--- what to write instead, by what is read at the first span
-abbrev pub help_at : List ℕ → ℕ → Diagnostic → Option (List ℕ)
-help_at bytes offset refusal =
+-- what to write instead, by what is read at the first span, of a text in this form
+abbrev pub help_at : Form → List ℕ → ℕ → Diagnostic → Option (List ℕ)
+help_at form bytes offset refusal =
     let span = first_span_of refusal in
-    option_map help_text (help_of refusal (read_from bytes (span.start - offset)) (read_from bytes (span.end - offset)))
+    option_map help_text (help_of refusal bytes (read_from form bytes (span.start - offset)) (read_from form bytes (span.end - offset)))

@@ -1,9 +1,10 @@
 //! What to write instead of what is refused.
 ghost use Rattle.std.specs.Prelude.{◌≡◌, Some};
 ghost use Rattle.std.specs.Option.{option_copied};
-ghost use Rattle.rx_refusal.specs.Helps.{class_help as for_class, class_text, escape_help as for_escape, escape_text, first_help as for_first, first_is_one_of, fixed_class_help as for_class_name, fixed_help as for_name, group_help as for_group, help_at, help_of, help_text, incomplete_help as for_incomplete, input_help as for_input, is_doubled as is_twice, is_escape as begins_escape, is_quoted as has_quotes, modifiers_help as for_modifiers, operand_help as for_operand, other_operator as other, read_from as from_byte, set_help as for_set, strings_help as for_strings, unicode_help as for_unicode, unterminated_help as for_unterminated};
+ghost use Rattle.rx_refusal.specs.Helps.{class_help as for_class, class_text, escape_help as for_escape, escape_text, first_help as for_first, first_is_one_of, fixed_class_help as for_class_name, fixed_help as for_name, group_help as for_group, help_at, help_of, help_text, incomplete_help as for_incomplete, input_help as for_input, is_doubled as is_twice, is_escape as begins_escape, modifiers_help as for_modifiers, operand_help as for_operand, other_operator as other, read_from as from_byte, set_help as for_set, strings_help as for_strings, unicode_help as for_unicode, unterminated_help as for_unterminated};
 
 use rx_base::{Diagnostic, SetOperator, Unterminated};
+use rx_model::Form;
 
 /// What to write instead.
 #[derive(Clone, Copy, Debug, PartialEq, Eq)]
@@ -56,23 +57,30 @@ pub enum ClassHelp {
     Operand(SetOperator),
 }
 
-/// What to write instead, where the first span of a refusal lies in this text, so much being added to each place.
-pub fn help_for(text: &str, offset: u32, refusal: &Diagnostic) -> Option<&'static str>
-    ensures { option_copied result ≡ help_at text.now offset refusal.now }
+/// What to write instead, where the first span of a refusal lies in this text, so much being added to each place. The text of a constructor stands with its quotes.
+pub fn help_for(form: Form, text: &str, offset: u32, refusal: &Diagnostic) -> Option<&'static str>
+    ensures { option_copied result ≡ help_at form text.now offset refusal.now }
 {
     let span = refusal.first_span();
-    let front = read_from(text.as_bytes(), span.start.saturating_sub(offset) as usize);
-    let after = read_from(text.as_bytes(), span.end.saturating_sub(offset) as usize);
-    Some(Help::of(refusal, front, after)?.text())
+    let bytes = text.as_bytes();
+    let front = read_from(form, bytes, span.start.saturating_sub(offset) as usize);
+    let after = read_from(form, bytes, span.end.saturating_sub(offset) as usize);
+    Some(Help::of(refusal, bytes, front, after)?.text())
 }
 
 impl Help {
-    /// What can be said of a refusal, if anything can, by what is read from the beginning and from the end of its first span on.
-    pub fn of(refusal: &Diagnostic, front: Option<&[u8]>, after: Option<&[u8]>) -> Option<Help>
-        ensures { result ≡ help_of refusal.now (option_copied front.entry) (option_copied after.entry) }
+    /// What can be said of a refusal, if anything can, by what is read from the beginning and from the end of its first span on. An argument that is no string and no
+    /// template is looked at as it stands.
+    pub fn of(
+        refusal: &Diagnostic,
+        text: &[u8],
+        front: Option<&[u8]>,
+        after: Option<&[u8]>,
+    ) -> Option<Help>
+        ensures { result ≡ help_of refusal.now text.now (option_copied front.entry) (option_copied after.entry) }
     {
         match refusal {
-            Diagnostic::InvalidInput { .. } => input_help(front?),
+            Diagnostic::InvalidInput { .. } => input_help(text),
             Diagnostic::UnknownModifiers { .. } => modifiers_help(after?),
             Diagnostic::ParsePatternIncomplete { .. } => Some(incomplete_help(front?)),
             Diagnostic::UnterminatedPattern { what, .. } => unterminated_help(*what, after),
@@ -162,25 +170,17 @@ impl ClassHelp {
     }
 }
 
-/// What is read from a byte of a text on, where that is known: a text in quotes ends before the closing quote, and an escape of its own is not looked at.
-pub fn read_from(text: &[u8], at: usize) -> Option<&[u8]>
-    ensures { option_copied result ≡ from_byte text.now at }
+/// What is read from a byte of a text on, where that is known: a literal has no quotes; an argument ends before its closing quote, and an escape of the string itself
+/// is not looked at.
+pub fn read_from(form: Form, text: &[u8], at: usize) -> Option<&[u8]>
+    ensures { option_copied result ≡ from_byte form text.now at }
 {
     let read = &text[at.min(text.len())..];
-    if !is_quoted(text) {
-        return Some(read);
+    match form {
+        Form::Literal => Some(read),
+        Form::Constructor if stands_first(b"\\", read) => None,
+        Form::Constructor => Some(&read[..read.len().saturating_sub(1)]),
     }
-    if stands_first(b"\\", read) {
-        return None;
-    }
-    Some(&read[..read.len().saturating_sub(1)])
-}
-
-/// Whether a text begins and ends with the same quote.
-fn is_quoted(text: &[u8]) -> bool
-    ensures { result ≡ has_quotes text.now }
-{
-    stands_first(b"\"'`", text) && text.len() >= 2 && text[0] == text[text.len() - 1]
 }
 
 /// What is the same for all refusals of a name.
@@ -228,11 +228,11 @@ fn fixed_class_help(refusal: &Diagnostic) -> Option<Help>
     }
 }
 
-/// By whether a text has quotes and is none the less no string.
-fn input_help(front: &[u8]) -> Option<Help>
-    ensures { result ≡ for_input front.now }
+/// By whether a text that is no string and no template begins with a quote.
+fn input_help(text: &[u8]) -> Option<Help>
+    ensures { result ≡ for_input text.now }
 {
-    if stands_first(b"\"'`", front) {
+    if stands_first(b"\"'`", text) {
         None
     } else {
         Some(Help::Quotes)

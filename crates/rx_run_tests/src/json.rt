@@ -1,8 +1,9 @@
-//! The command `json`: replies in order however the bytes come, its statuses, and ends that fail.
+//! The command `json`: replies in order however the bytes come, its statuses, ends that fail, and helps of texts with quotes.
 ghost use Rattle.std.specs.Prelude.{◌<◌};
 
 use crate::memory::{bytes_of, words_of};
 use rx_base::{List, MemorySink, MemorySource, OutOfMemory};
+use rx_rows::{Call, agree};
 use rx_run::run::{Status, run};
 use std::alloc::Global;
 use std::test::Fail;
@@ -144,4 +145,39 @@ fn the_longest_line_is_read(rt: HostRuntime) -> Result<(), Fail> {
     assert_eq!(rt; sink.bytes(), REPLY.as_bytes());
     assert_eq!(rt; status, Status::AllOk);
     Ok(())
+}
+
+/// What a reply ends with from its help on; a reply without one, whole.
+#[derive(Drop)]
+struct Help;
+
+impl Call for Help {
+    fn answer(&self, alloc: Global, asked: &str) -> Result<String, Fail> {
+        let (_, sink) = run_json(alloc, asked.as_bytes(), (64, 64), (0, 0))?;
+        let reply = str::from_utf8(sink.bytes()).ok().ok_or("no text")?;
+        let (_, help) = reply.split_once("\"help\":").unwrap_or(("", reply));
+        Ok(format!(in alloc; "{}", help.trim_end())?)
+    }
+}
+
+/// In a literal a quote is a character of the pattern; an argument is looked at between its quotes.
+#[test]
+fn quotes_are_told_by_the_form(rt: HostRuntime) -> Result<(), Fail> {
+    agree(
+        rt.alloc(),
+        &Help,
+        r#"{"pattern":"\"[a&&b\\y]\"","flags":"v"} => "to match the character after the backslash, leave the backslash out"}
+{"pattern":"'a)'","flags":"u"} => "to match the character at which reading stops, write a backslash before it"}
+{"pattern":"`a\\y`","flags":"u"} => "to match the character after the backslash, leave the backslash out"}
+{"pattern":"`a\\`","flags":"u"} => "to match the character after the backslash, leave the backslash out"}
+{"pattern":"\"","want":[]} => {"id":null,"status":"ok","mode":"legacy"}
+{"pattern":"\"'a)'\"","form":"constructor"} => "to match the character at which reading stops, write a backslash before it"}
+{"pattern":"\"'(a'\"","form":"constructor"} => "a group ends with )"}
+{"pattern":"\"(?\\x50<a>b)\"","form":"constructor"} => null}
+{"pattern":"\"","form":"constructor"} => null}
+{"pattern":"","form":"constructor"} => "an argument of RegExp is written with its quotes"}
+{"pattern":"\\","form":"constructor"} => "an argument of RegExp is written with its quotes"}
+{"pattern":"\"a\"","flags":"u","form":"constructor"} => "an argument of RegExp is written with its quotes"}
+{"pattern":"a","flags":"\"g\""} => "the flags are d, g, i, m, s, u, v and y"}"#,
+    )
 }

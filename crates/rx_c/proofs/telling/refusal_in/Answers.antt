@@ -30,8 +30,8 @@ returns c =
       name = c.leak.ensures.value ∙ c.in_ok-words.ensures.name;
       kind = c.leak-2.ensures.value ∙ c.in_ok-words.ensures.kind;
       message = c.leak-3.ensures.value ∙ c.in_ok-words.ensures.message;
-      help = c.leak-4.ensures.value ∙ c.in_ok-words.ensures.help ∙ ap (λ t. optional_with_nul (help_at t c.offset_in-offset.result cause)) bytes
-          ∙ ap (λ n. optional_with_nul (help_at (encode_utf8_all (text_in input c.args.field)) n cause)) c.offset_in-offset.ensures;
+      help = c.leak-4.ensures.value ∙ c.in_ok-words.ensures.help ∙ ap (λ t. optional_with_nul (help_at input.form t c.offset_in-offset.result cause)) bytes
+          ∙ ap (λ n. optional_with_nul (help_at input.form (encode_utf8_all (text_in input c.args.field)) n cause)) c.offset_in-offset.ensures;
       values = c.leak-5.ensures.value ∙ c.requires;
       field_is = c.field_code.ensures;
       span_count = search rules;

@@ -20,7 +20,8 @@ returns c =
     let lies : IsFieldOf input c.args.refusal.now side = subst (λ (it : Input). IsFieldOf it c.args.refusal.now side) seen c.in_ok-field.ensures in
     let text = ap chars c.in_ok-places.ensures.text ∙ c.text_in-text.ensures.text ∙ ap (λ (it : Input). text_in it side) seen in
     let offset = c.in_ok-places.ensures.offset ∙ c.offset_in.ensures ∙ ap (λ (it : Input). offset_in it side) seen in
-    let told = told_so input side c.args.refusal.now places.text.now places.offset utf8 text offset in
+    let form = ap (λ (it : Input). it.form) seen in
+    let told = told_so input side c.args.refusal.now c.input-input.result.form places.text.now places.offset form utf8 text offset in
     on_ok_weaker c.write_refusal.result
     (λ added. (side, lies, subst (λ (fields : List Field). Adds c.args.writer.now c.write_refusal.new.writer (field_tokens fields)) told added))
     c.write_refusal.ensures
