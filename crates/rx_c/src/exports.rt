@@ -10,7 +10,7 @@ use crate::options::Options;
 use crate::question::Question;
 use crate::reading::Reading;
 use crate::telling::tell_refusal;
-use crate::text::{leak_text, with_nul};
+use crate::text::{leak_list, leak_text, with_nul};
 use crate::units::move_to_utf16;
 use rx_ast::Pattern;
 use rx_base::{Fault, OutOfMemory};
@@ -110,10 +110,10 @@ fn tell_tree<'a>(
     } = made;
     Ok(Reading {
         mode: mode_code(mode),
-        nodes: nodes.leak(),
-        groups: groups.leak(),
+        nodes: leak_list(nodes),
+        groups: leak_list(groups),
         texts: leak_text(texts),
-        spelling: spelling.leak(),
+        spelling: leak_list(spelling),
         ..Reading::empty()
     })
 }

@@ -14,7 +14,7 @@ use crate::codes::field_code;
 use crate::question::Question;
 use crate::reading::Reading;
 use crate::refusal::Refusal;
-use crate::text::{leak_text, optional_with_nul, with_nul};
+use crate::text::{leak_list, leak_text, optional_with_nul, with_nul};
 use crate::units::{optional_in_units, range_in_units};
 use rx_base::{Diagnostic, OutOfMemory};
 use rx_places::Places;
@@ -76,11 +76,11 @@ fn refusal_in<'a>(
     let utf16 = it.wants.utf16;
     let second = cause.second_span();
     Ok(Refusal {
-        name: words.name.leak(),
-        kind: words.kind.leak(),
-        message: words.message.leak(),
-        help: words.help.leak(),
-        values: values.leak(),
+        name: leak_list(words.name),
+        kind: leak_list(words.kind),
+        message: leak_list(words.message),
+        help: leak_list(words.help),
+        values: leak_list(values),
         field: field_code(field),
         span_count: if second.is_some() { 2 } else { 1 },
         max: max_of(cause).unwrap_or(0),

@@ -1,5 +1,5 @@
 //! Texts that are given up to the caller; some end with NUL.
-ghost use Rattle.std.specs.Prelude.{◌≡◌, ◌++◌, ◌∷◌, [], IfOk, IsUtf8};
+ghost use Rattle.std.specs.Prelude.{◌≡◌, ◌++◌, ◌∷◌, [], IfOk, IsUtf8, vec_capacity, vec_len};
 ghost use Rattle.std.specs.Option.{option_copied};
 ghost use Rattle.std.specs.String.{string_bytes};
 ghost use Rattle.rx_c.specs.Told.{optional_with_nul};
@@ -33,5 +33,23 @@ pub fn leak_text<'a>(text: String) -> &'a [u8]
     ensures utf8 { IsUtf8 result.now }
 {
     let _ = text.as_str();
-    text.into_bytes().leak()
+    leak_list(text.into_bytes())
+}
+
+/// A list, given up to whoever frees it by its pointer. Nobody frees an empty one, so it gives its room back.
+pub fn leak_list<'a, T: Drop + 'a>(list: Vec<T>) -> &'a [T]
+    ensures { result.now ≡ list.items }
+{
+    if list.is_empty() {
+        return &[];
+    }
+    leak_block(list)
+}
+
+/// Gives up the block of a list. An empty list has none, since nobody would free it.
+fn leak_block<'a, T: Drop + 'a>(list: Vec<T>) -> &'a [T]
+    requires { vec_len list ≡ 0 → vec_capacity list ≡ 0 }
+    ensures { result.now ≡ list.items }
+{
+    list.leak()
 }

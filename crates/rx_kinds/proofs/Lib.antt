@@ -1,2 +1,3 @@
+pub mod Characters
 pub mod Inner
 pub mod SameCodes

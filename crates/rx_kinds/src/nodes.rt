@@ -2,7 +2,8 @@
 ghost use Rattle.std.specs.Prelude.{◌≡◌, [], MatchOption, true, length};
 ghost use Rattle.rx_ast.specs.Kinds.{character, children};
 ghost use Rattle.rx_ast.specs.MirrorKinds.{mirror_kind};
-ghost use Rattle.rx_kinds.specs.Inner.{node_of};
+ghost use Rattle.rx_kinds.specs.Inner.{IsNoCharacter, node_of};
+ghost use Rattle.rx_kinds.specs.Leaves.{is_leaf};
 ghost use Rattle.rx_visit.specs.Siblings.{in_order};
 
 use rx_ast::{Character, CharacterClassContents, RegExpAstKind, Term};
@@ -39,11 +40,11 @@ pub fn node_in<'a>(node: RegExpAstKind<'a>) -> RegExpAstKind<'a>
     }
 }
 
-/// The character that a node, a term or an item of a class is. Most nodes are characters, and are found so without more ado.
+/// The character that a node, a term or an item of a class is, or none where it is no character. Most nodes are characters, and are found so without more ado.
 #[inline(always)]
 #[tactic(auto, using(rx_ast::proofs::Equations::mirrors, rx_ast::proofs::ClassEquations::class_mirrors))]
 pub fn character_in<'a>(node: RegExpAstKind<'a>) -> Option<&'a Character>
-    ensures { MatchOption result (Unit {0}) (λ it. node_of (mirror_kind node.entry) ≡ character it.now) }
+    ensures { MatchOption result (IsNoCharacter (mirror_kind node.entry)) (λ it. node_of (mirror_kind node.entry) ≡ character it.now) }
 {
     match node {
         RegExpAstKind::Character(it) => Some(it),
@@ -62,7 +63,8 @@ pub fn character_in<'a>(node: RegExpAstKind<'a>) -> Option<&'a Character>
 /// Whether nothing can stand in a node of this type.
 #[inline(always)]
 pub fn is_leaf(node: RegExpAstKind<'_>) -> bool
-    ensures { result ≡ true → children (mirror_kind node.entry) ≡ [] }
+    ensures exact { result ≡ is_leaf (mirror_kind node.entry) }
+    ensures empty { result ≡ true → children (mirror_kind node.entry) ≡ [] }
 {
     match node {
         RegExpAstKind::BoundaryAssertion(_)

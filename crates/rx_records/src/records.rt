@@ -1,4 +1,4 @@
-ghost use Rattle.std.specs.Prelude.{◌≡◌, ◌+◌, ◌++◌, [], ◌∷◌, IfOk, OnOk, encode_utf8_all, length};
+ghost use Rattle.std.specs.Prelude.{◌≡◌, ◌+◌, ◌^◌, ◌≤◌, ◌++◌, [], ◌∷◌, IfOk, MatchResult, OnErr, OnOk, encode_utf8_all, length};
 ghost use Rattle.std.specs.String.{string_bytes};
 ghost use Rattle.rx_ast.specs.Kinds.{character};
 ghost use Rattle.rx_ast.specs.MirrorKinds.{mirror_kind};
@@ -79,9 +79,10 @@ impl Records {
         self.push(character_record(it), Links { children: 0, next })
     }
 
-    /// Ends the node at an index: all that stand in it were added.
+    /// Ends the node at an index: all that stand in it were added. An error comes where there are more records than fit.
     pub(crate) fn end(&mut self, at: u32) -> Result<(), OutOfMemory>
         ensures nodes { OnOk result (self.new.nodes.items ≡ with_end at (length self.old.nodes.items) self.old.nodes.items) }
+        ensures too_many { OnErr result (2 ^ 32 ≤ length self.old.nodes.items) }
         ensures groups { self.new.groups.items ≡ self.old.groups.items }
         ensures texts { string_bytes self.new.texts ≡ string_bytes self.old.texts }
     {
@@ -114,16 +115,16 @@ fn set_next(nodes: &mut [Node], at: usize, next: u32)
     }
 }
 
-/// How many there are, where that fits.
+/// How many there are, or an error where that does not fit.
 pub(crate) fn as_u32(count: usize) -> Result<u32, OutOfMemory>
-    ensures { IfOk result (λ n. n ≡ count) }
+    ensures { MatchResult result (λ n. n ≡ count) (λ _. 2 ^ 32 ≤ count) }
 {
     u32::try_from(count).map_err(|_| OutOfMemory)
 }
 
-/// One more than there are, where that fits.
+/// One more than there are, or an error where that does not fit.
 pub(crate) fn one_more(count: usize) -> Result<u32, OutOfMemory>
-    ensures { IfOk result (λ n. n ≡ count + 1) }
+    ensures { MatchResult result (λ n. n ≡ count + 1) (λ _. 2 ^ 32 ≤ count + 1) }
 {
     as_u32(count)?.checked_add(1).ok_or(OutOfMemory)
 }

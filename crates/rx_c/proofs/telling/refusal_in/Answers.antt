@@ -27,12 +27,12 @@ returns c =
     let text = ap chars c.in_ok-places.ensures.text ∙ c.text_in-text.ensures.text in
     let offset = c.in_ok-places.ensures.offset ∙ c.offset_in-offset.ensures in
     record {
-      name = c.leak.ensures.value ∙ c.in_ok-words.ensures.name;
-      kind = c.leak-2.ensures.value ∙ c.in_ok-words.ensures.kind;
-      message = c.leak-3.ensures.value ∙ c.in_ok-words.ensures.message;
-      help = c.leak-4.ensures.value ∙ c.in_ok-words.ensures.help ∙ ap (λ t. optional_with_nul (help_at input.form t c.offset_in-offset.result cause)) bytes
+      name = c.leak_list.ensures ∙ c.in_ok-words.ensures.name;
+      kind = c.leak_list-2.ensures ∙ c.in_ok-words.ensures.kind;
+      message = c.leak_list-3.ensures ∙ c.in_ok-words.ensures.message;
+      help = c.leak_list-4.ensures ∙ c.in_ok-words.ensures.help ∙ ap (λ t. optional_with_nul (help_at input.form t c.offset_in-offset.result cause)) bytes
           ∙ ap (λ n. optional_with_nul (help_at input.form (encode_utf8_all (text_in input c.args.field)) n cause)) c.offset_in-offset.ensures;
-      values = c.leak-5.ensures.value ∙ c.requires;
+      values = c.leak_list-5.ensures ∙ c.requires;
       field_is = c.field_code.ensures;
       span_count = search rules;
       max = search rules;
