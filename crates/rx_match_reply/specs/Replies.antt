@@ -1,8 +1,6 @@
 -- What `match` and `steps` answer of a pattern that is read.
-use Rattle.std.specs.Prelude.{◌≡◌, ℕ, ◌||◌, List, ◌++◌, length, codes, Option, Some, None, Result, Ok, Err}
+use Rattle.std.specs.Prelude.{◌≡◌, ℕ, List, ◌++◌, length, codes, Option, Some, None, Result, Ok, Err}
 use Rattle.std.specs.Fmt.{decimal}
-use Rattle.rx_base.specs.Ascii as ascii
-use Rattle.rx_base.specs.Flags.{holds}
 use Rattle.rx_ast.specs.Tree.{Whole}
 use Rattle.rx_units.specs.Units.{literal_units, values}
 use Rattle.rx_trace.specs.declared.answer.Found.{Found}
@@ -13,13 +11,9 @@ use Rattle.rx_trace.specs.Answers.{IsAnswer, IsTickCount}
 use Rattle.rx_match_reply.specs.Found.{found_reply}
 use Rattle.rx_reply.specs.Places.{span_text}
 
--- how a pattern with these flags is matched: `i`, `m` and `s` are flags of the match, and `u` and `v` say that its units are characters
-abbrev pub match_flags : List ℕ → MatchFlags
-match_flags letters = record { ignore_case = holds letters ascii.i; multiline = holds letters ascii.m; dot_all = holds letters ascii.s; unicode_mode = holds letters ascii.u || holds letters ascii.v }
-
--- the units of a text that a pattern with these flags is matched on
-abbrev pub units_under : List ℕ → List ℕ → List ℕ
-units_under letters text = values (literal_units (match_flags letters).unicode_mode 0 text)
+-- the units of a text that a pattern is matched on, with these flags
+abbrev pub units_under : MatchFlags → List ℕ → List ℕ
+units_under flags text = values (literal_units flags.unicode_mode 0 text)
 
 -- The reply to what stops a match. Out of memory has none.
 abbrev pub fault_reply : MatchFault → Option (List ℕ)
@@ -41,13 +35,13 @@ ticks_reply (Ok None) = Some (codes "more\n")
 ticks_reply (Err e) = fault_reply e
 
 -- The reply says what a search for the pattern comes to, from the first place of the text on and within this budget.
-pub record IsMatchReply (letters text : List ℕ) (tree : Whole) (budget : ℕ) (reply : List ℕ) : Type 0 where
+pub record IsMatchReply (flags : MatchFlags) (text : List ℕ) (tree : Whole) (budget : ℕ) (reply : List ℕ) : Type 0 where
   pub answer : Result (Option Found) MatchFault
-  pub answered : IsAnswer (match_flags letters) tree (units_under letters text) (length (units_under letters text)) 0 budget answer
+  pub answered : IsAnswer flags tree (units_under flags text) (length (units_under flags text)) 0 budget answer
   pub reply_is : answer_reply answer ≡ Some reply
 
 -- The reply says how many Ticks this search takes, where they are so many at most.
-pub record IsTicksReply (letters text : List ℕ) (tree : Whole) (most : ℕ) (reply : List ℕ) : Type 0 where
+pub record IsTicksReply (flags : MatchFlags) (text : List ℕ) (tree : Whole) (most : ℕ) (reply : List ℕ) : Type 0 where
   pub ticks : Result (Option ℕ) MatchFault
-  pub counted : IsTickCount (match_flags letters) tree (units_under letters text) (length (units_under letters text)) 0 most ticks
+  pub counted : IsTickCount flags tree (units_under flags text) (length (units_under flags text)) 0 most ticks
   pub reply_is : ticks_reply ticks ≡ Some reply

@@ -1,7 +1,6 @@
 //! The replies to a pattern that is matched on a text: what is found, what stops the match, and how many Ticks it takes.
 #![tactic(auto)]
 
-mod flags;
 mod found;
 mod replies;
 

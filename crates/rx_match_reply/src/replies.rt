@@ -5,11 +5,10 @@ ghost use Rattle.rx_reply.specs.Places.{span_text};
 ghost use Rattle.rx_reply.specs.Added.{IsAdded};
 ghost use Rattle.rx_match_reply.specs.Replies.{IsMatchReply, IsTicksReply, answer_reply, fault_reply, ticks_reply};
 
-use crate::flags::match_flags;
 use crate::found::add_found;
 use rx_ast::Pattern;
 use rx_base::{List, OutOfMemory, Span};
-use rx_match::{Found, MatchFault, search, ticks_of_search, units_of};
+use rx_match::{Found, MatchFault, MatchFlags, search, ticks_of_search, units_of};
 use rx_reply::{add_decimal, add_span};
 use std::alloc::Global;
 
@@ -19,13 +18,12 @@ pub fn add_match(
     alloc: Global,
     bytes: &mut List<u8>,
     pattern: &Pattern,
-    letters: &str,
+    flags: MatchFlags,
     text: &str,
     budget: u64,
 ) -> Result<(), OutOfMemory>
-    ensures { OnOk result ((reply : Sequence ℕ) × IsMatchReply letters.now (chars text.now) (mirror pattern.now) budget reply × (bytes.new ≡ bytes.old ++ reply)) }
+    ensures { OnOk result ((reply : Sequence ℕ) × IsMatchReply flags (chars text.now) (mirror pattern.now) budget reply × (bytes.new ≡ bytes.old ++ reply)) }
 {
-    let flags = match_flags(letters);
     let units = units_of(alloc, text, flags.unicode_mode)?;
     let answer = search(alloc, pattern, flags, units.as_slice(), 0, budget);
     add_answer(bytes, answer)
@@ -37,13 +35,12 @@ pub fn add_ticks(
     alloc: Global,
     bytes: &mut List<u8>,
     pattern: &Pattern,
-    letters: &str,
+    flags: MatchFlags,
     text: &str,
     most: u64,
 ) -> Result<(), OutOfMemory>
-    ensures { OnOk result ((reply : Sequence ℕ) × IsTicksReply letters.now (chars text.now) (mirror pattern.now) most reply × (bytes.new ≡ bytes.old ++ reply)) }
+    ensures { OnOk result ((reply : Sequence ℕ) × IsTicksReply flags (chars text.now) (mirror pattern.now) most reply × (bytes.new ≡ bytes.old ++ reply)) }
 {
-    let flags = match_flags(letters);
     let units = units_of(alloc, text, flags.unicode_mode)?;
     let ticks = ticks_of_search(alloc, pattern, flags, units.as_slice(), 0, most);
     add_count(bytes, ticks)

@@ -1,4 +1,4 @@
-//! What replies are made of: how numbers, places and spans are written, and which flags a request has.
+//! What replies are made of: how numbers, places and spans are written, which flags a request has, and what these ask of a match.
 #![tactic(auto)]
 
 mod decimal;
@@ -6,5 +6,5 @@ mod flags;
 mod places;
 
 pub use decimal::add_decimal;
-pub use flags::has_flag;
+pub use flags::{has_flag, match_flags};
 pub use places::{add_range, add_span};

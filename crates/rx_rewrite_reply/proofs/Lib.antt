@@ -1,2 +1,3 @@
 pub mod AnswerReplies
+pub mod FlagsLeft
 pub mod Parts

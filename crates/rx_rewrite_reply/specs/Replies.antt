@@ -6,9 +6,9 @@ use Rattle.rx_base.specs.declared.span.Span.{Span}
 use Rattle.rx_ast.specs.declared.term.Pattern.{Pattern}
 use Rattle.rx_ast.specs.Forget.{bare}
 use Rattle.rx_ast.specs.Tree.{Whole}
+use Rattle.rx_reply.specs.Flags.{match_flags}
 use Rattle.rx_reply.specs.Places.{span_text}
 use Rattle.rx_model.specs.declared.mode.Mode.{Mode}
-use Rattle.rx_model.specs.Inputs.Environment.{is_unicode}
 use Rattle.rx_model.specs.Spelling.Spelling.{spelling}
 use Rattle.rx_rewrite.specs.declared.fault.RewriteFault.{RewriteFault}
 use Rattle.rx_rewrite.specs.declared.fault.RewriteFault.TheVariants as fault
@@ -19,11 +19,6 @@ use Rattle.rx_rewrite.specs.declared.wanted.Wanted.{Wanted}
 use Rattle.rx_rewrite.specs.declared.wanted.Wanted.TheVariants.{All, Listed}
 use Rattle.rx_rewrite.specs.Wanted.{rewrites_of}
 use Rattle.rx_tools.specs.Utf8.{utf8}
-use Rattle.rx_trace.specs.declared.answer.MatchFlags.{MatchFlags}
-
--- how a pattern with these flags is matched
-abbrev pub match_flags : List ℕ → Mode → MatchFlags
-match_flags letters mode = record { ignore_case = holds letters ascii.i; multiline = holds letters ascii.m; dot_all = holds letters ascii.s; unicode_mode = is_unicode mode }
 
 -- `m` goes with multiline, `s` with dot_all, and no other flag goes
 abbrev pub stays : Rewrites → ℕ → Bool
@@ -33,9 +28,13 @@ stays what flag = if flag == ascii.m then not what.multiline else (if flag == as
 abbrev pub flags_among : Rewrites → List ℕ → List ℕ → List ℕ
 flags_among what letters flags = filter (λ flag. stays what flag && holds letters flag) flags
 
--- the flags that stay, in the order of `dgimsuvy`
+-- all flags, in the order in which a RegExp tells its own (get RegExp.prototype.flags, 22.2.6.4)
+abbrev pub flags_in_order : List ℕ
+flags_in_order = codes "dgimsuvy"
+
+-- the flags that stay, in this order
 abbrev pub flags_left : Rewrites → List ℕ → List ℕ
-flags_left what letters = flags_among what letters (codes "dgimsuvy")
+flags_left what letters = flags_among what letters flags_in_order
 
 abbrev pub pattern_reply : Rewrites → List ℕ → Mode → Pattern → List ℕ
 pattern_reply what letters mode it = codes "ok\t" ++ flags_left what letters ++ codes "\t" ++ utf8 (spelling (bare it) mode) ++ codes "\n"
@@ -57,5 +56,5 @@ unsupported_reply span = codes "err\tunsupported\t" ++ span_text span ++ codes "
 -- The reply says that modifiers are left, or else what the pattern is rewritten into.
 pub data IsRewriteReply (wanted : Wanted) (letters : List ℕ) (mode : Mode) (tree : Whole) : List ℕ → Type 0 where
   unsupported : (span : Span) → kept_among wanted tree ≡ Some span → IsRewriteReply wanted letters mode tree (unsupported_reply span)
-  answered : (answer : Result Pattern RewriteFault) (reply : List ℕ) → kept_among wanted tree ≡ None → IsRewritten (rewrites_of wanted) (match_flags letters mode) tree answer
+  answered : (answer : Result Pattern RewriteFault) (reply : List ℕ) → kept_among wanted tree ≡ None → IsRewritten (rewrites_of wanted) (match_flags mode letters) tree answer
       → answer_reply (rewrites_of wanted) letters mode answer ≡ Some reply → IsRewriteReply wanted letters mode tree reply

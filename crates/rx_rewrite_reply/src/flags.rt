@@ -1,26 +1,9 @@
 ghost use Rattle.std.specs.Prelude.{◌≡◌, ◌++◌, OnOk};
-ghost use Rattle.rx_model.specs.Inputs.Environment.{is_unicode};
-ghost use Rattle.rx_rewrite_reply.specs.Replies.{flags_among, flags_left, match_flags, stays};
+ghost use Rattle.rx_rewrite_reply.specs.Replies.{flags_among, flags_left, stays};
 
 use rx_base::{List, OutOfMemory};
-use rx_model::Mode;
 use rx_reply::has_flag;
 use rx_rewrite::Rewrites;
-use rx_trace::MatchFlags;
-
-/// How a pattern with these flags is matched.
-pub fn match_flags(letters: &str, mode: Mode) -> MatchFlags
-    ensures flags { result ≡ match_flags letters.now mode }
-    ensures unicode_mode { result.unicode_mode ≡ is_unicode mode }
-{
-    let bytes = letters.as_bytes();
-    MatchFlags {
-        ignore_case: has_flag(bytes, b'i'),
-        multiline: has_flag(bytes, b'm'),
-        dot_all: has_flag(bytes, b's'),
-        unicode_mode: mode.is_unicode(),
-    }
-}
 
 /// Adds the flags that stay.
 pub fn add_flags(bytes: &mut List<u8>, letters: &str, what: Rewrites) -> Result<(), OutOfMemory>

@@ -2,6 +2,7 @@
 #![tactic(auto)]
 
 mod flags;
+pub mod laws;
 mod replies;
 
 pub use replies::{Rewriting, add_rewritten};

@@ -8,11 +8,11 @@ ghost use Rattle.rx_rewrite.specs.Wanted.{rewrites_of};
 ghost use Rattle.rx_reply.specs.Added.{IsAdded};
 ghost use Rattle.rx_rewrite_reply.specs.Replies.{IsRewriteReply, answer_reply, pattern_reply, kept_among};
 
-use crate::flags::{add_flags, match_flags};
+use crate::flags::add_flags;
 use rx_ast::Pattern;
 use rx_base::{List, OutOfMemory, Span};
 use rx_model::Mode;
-use rx_reply::add_span;
+use rx_reply::{add_span, match_flags};
 use rx_rewrite::{RewriteFault, Wanted, modifiers_left, rewrite};
 use rx_tools::append_canonical;
 use std::alloc::Global;
@@ -54,7 +54,7 @@ pub fn add_rewritten(
     if let Some(span) = left {
         return add_unsupported(bytes, span);
     }
-    let flags = match_flags(letters, mode);
+    let flags = match_flags(mode, letters);
     let answer = rewrite(
         alloc,
         pattern,

@@ -24,6 +24,7 @@ use Rattle.rx_match_reply.specs.Replies.{IsMatchReply, IsTicksReply}
 use Rattle.rx_paint.specs.Runs.{pattern_tokens}
 use Rattle.rx_paint_reply.specs.Colors.{color_reply}
 use Rattle.rx_paint_reply.specs.Tokens.{tokens_reply}
+use Rattle.rx_reply.specs.Flags.{match_flags}
 use Rattle.rx_rewrite_reply.specs.Replies.{IsRewriteReply}
 use Rattle.rx_command.specs.declared.answer.Answering.{Answering}
 use Rattle.rx_command.specs.declared.answer.Answering.TheVariants.{Canonical, Display, Support, Match, Steps, Paint, PaintColor, Lint, Rewrite}
@@ -71,8 +72,8 @@ IsSaid Canonical request mode pattern reply = reply ≡ canonical_reply mode (sp
 IsSaid Display request mode pattern reply = reply ≡ display_reply mode (encode_utf8_all (pattern_shown pattern))
 IsSaid (Support features) request mode pattern reply =
     reply ≡ support_reply (are_refused_flags features.flags (flags_bytes request.flags)) (needs_feature features (order (pattern_kind (mirror pattern))))
-IsSaid (Match budget text) request mode pattern reply = IsMatchReply (flags_bytes request.flags) text (mirror pattern) budget reply
-IsSaid (Steps text most) request mode pattern reply = IsTicksReply (flags_bytes request.flags) text (mirror pattern) most reply
+IsSaid (Match budget text) request mode pattern reply = IsMatchReply (match_flags mode (flags_bytes request.flags)) text (mirror pattern) budget reply
+IsSaid (Steps text most) request mode pattern reply = IsTicksReply (match_flags mode (flags_bytes request.flags)) text (mirror pattern) most reply
 IsSaid Paint request mode pattern reply = reply ≡ tokens_reply (pattern_tokens (mirror pattern))
 IsSaid PaintColor request mode pattern reply = reply ≡ color_reply (encode_utf8_all (literal_text request.text)) (pattern_tokens (mirror pattern))
 IsSaid Lint request mode pattern reply = reply ≡ findings_reply (findings (mirror pattern))

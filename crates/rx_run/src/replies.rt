@@ -31,9 +31,10 @@ use rx_ast::Pattern;
 use rx_base::{Diagnostic, Failed, Fault, List, OutOfMemory, Sink, write_all};
 use rx_command::{Answering, Features, Service};
 use rx_lint_reply::add_findings;
+use rx_match::MatchFlags;
 use rx_match_reply::{add_match, add_ticks};
 use rx_paint_reply::{add_colors, add_tokens};
-use rx_reply::add_decimal;
+use rx_reply::{add_decimal, match_flags};
 use rx_rewrite_reply::{Rewriting, add_rewritten};
 use rx_tools::support::has_unsupported_regular_expression_flags;
 use rx_tools::{Mode, append_canonical, display_text, read_pattern};
@@ -88,10 +89,12 @@ impl Replies {
                 self.add_support(features, request.flags_field(), pattern)
             }
             Answering::Match { budget, text } => {
-                self.add_match(pattern, request.flags_field(), text.as_str(), *budget)
+                let flags = match_flags(mode, request.flags_field());
+                self.add_match(pattern, flags, text.as_str(), *budget)
             }
             Answering::Steps { text, most } => {
-                self.add_steps(pattern, request.flags_field(), text.as_str(), *most)
+                let flags = match_flags(mode, request.flags_field());
+                self.add_steps(pattern, flags, text.as_str(), *most)
             }
             Answering::Paint => self.add_tokens(pattern),
             Answering::PaintColor => self.add_colors(pattern, request.text),
@@ -151,15 +154,15 @@ impl Replies {
         add_colors(self.bytes.allocator(), &mut self.bytes, pattern, text)
     }
 
-    /// Adds the reply that says what a tree matches in a text.
+    /// Adds the reply that says what a tree matches in a text, with these flags.
     fn add_match(
         &mut self,
         pattern: &Pattern,
-        flags: &str,
+        flags: MatchFlags,
         text: &str,
         budget: u64,
     ) -> Result<(), OutOfMemory>
-        ensures { OnOk result ((reply : Sequence ℕ) × IsMatchReply flags.now (chars text.now) (mirror pattern.now) budget reply
+        ensures { OnOk result ((reply : Sequence ℕ) × IsMatchReply flags (chars text.now) (mirror pattern.now) budget reply
             × (self.new.bytes ≡ self.old.bytes ++ reply) × (self.new.all_ok ≡ (self.old.all_ok && begins_ok reply))) }
     {
         let start = self.bytes.len();
@@ -173,11 +176,11 @@ impl Replies {
     fn add_steps(
         &mut self,
         pattern: &Pattern,
-        flags: &str,
+        flags: MatchFlags,
         text: &str,
         most: u64,
     ) -> Result<(), OutOfMemory>
-        ensures { OnOk result ((reply : Sequence ℕ) × IsTicksReply flags.now (chars text.now) (mirror pattern.now) most reply
+        ensures { OnOk result ((reply : Sequence ℕ) × IsTicksReply flags (chars text.now) (mirror pattern.now) most reply
             × (self.new.bytes ≡ self.old.bytes ++ reply) × (self.new.all_ok ≡ (self.old.all_ok && begins_ok reply))) }
     {
         let start = self.bytes.len();
