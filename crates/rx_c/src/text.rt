@@ -1,4 +1,4 @@
-//! Texts that are given up to the caller; some end with NUL.
+//! Lists and texts that are given up to the caller; some texts end with NUL.
 ghost use Rattle.std.specs.Prelude.{◌≡◌, ◌++◌, ◌∷◌, [], IfOk, IsUtf8, vec_capacity, vec_len};
 ghost use Rattle.std.specs.Option.{option_copied};
 ghost use Rattle.std.specs.String.{string_bytes};
