@@ -2,20 +2,13 @@
 //! Words on the command line ask for other replies: docs/PROGRAM.md has them.
 #![tactic(auto)]
 
-use rx_run::run::run;
-use rx_run::standard::{StdSink, StdSource};
-use rx_run::words::words;
+use rx_run::program::run_program;
+use rx_run::standard::{StdArguments, StdSink, StdSource};
 use std::process::ExitCode;
 
 fn main(rt: HostRuntime) -> ExitCode {
-    let alloc = rt.alloc();
-    let status = match words(&rt, alloc) {
-        Ok(words) => {
-            let mut source = StdSource::new(rt.stdin());
-            let mut sink = StdSink::new(rt.stdout());
-            run(alloc, words.as_slice(), &mut source, &mut sink)
-        }
-        Err(status) => status,
-    };
-    ExitCode::from(status.number())
+    let arguments = StdArguments::new(&rt);
+    let mut source = StdSource::new(rt.stdin());
+    let mut sink = StdSink::new(rt.stdout());
+    run_program(rt.alloc(), &arguments, &mut source, &mut sink)
 }

@@ -11,4 +11,5 @@ pub mod NoRequests
 pub mod PatternsMade
 pub mod Progresses
 pub mod Serving
+pub mod TakenWords
 pub mod ValidPatterns

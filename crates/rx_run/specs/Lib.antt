@@ -1,3 +1,4 @@
+pub mod Arguments
 pub mod Lines
 pub mod Request
 pub mod Spans
@@ -10,3 +11,5 @@ pub mod Generator
 pub mod Printing
 pub mod Status
 pub mod WholeInput
+pub mod Run
+pub mod Program

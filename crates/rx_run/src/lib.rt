@@ -4,6 +4,7 @@
 //! With the words `gen SEED COUNT` it makes patterns, and writes how many of them are read; with `--help` and `--version` it tells of itself.
 #![tactic(auto)]
 
+pub mod arguments;
 mod asking;
 mod generator;
 mod input;
@@ -12,6 +13,7 @@ pub mod laws;
 mod line;
 pub mod over_memory;
 mod pieces;
+pub mod program;
 mod replies;
 mod replying;
 mod request;

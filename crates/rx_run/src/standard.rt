@@ -1,11 +1,13 @@
-//! Standard input and standard output as ends of the program.
+//! Standard input and standard output as ends of the program, and the arguments of the process.
 ghost use Rattle.std.specs.Prelude.{◌≡◌, ◌<◌, ◌≤◌, ◌+◌, ◌^◌, ◌↔◌, ◌⊎◌, ℕ, None, Ok, IsNone, IfSome, IsErr, IsOkAnd, IfOk, OnOk, OnErr, MatchResult, length, take};
 ghost use Rattle.std.specs.Io.{ReadsAtMost, WritesAtMost};
 ghost use Rattle.std.specs.Io.KnownBytes.{Keeps, Consumes, IsAtEnd, WriteAppends};
 ghost use Rattle.rx_base.specs.FaultCounts.{CountsFaults};
 ghost use Rattle.rx_base.specs.Memory.{next_number};
 
+use crate::arguments::Arguments;
 use rx_base::{Failed, Sink, Source};
+use std::env::{Env, FillError};
 use std::io::{self, Read, Write};
 
 /// A reader as a source. It does not tell what is left.
@@ -130,5 +132,27 @@ impl<W: Write + Drop> Sink for StdSink<W> {
                 Err(Failed)
             }
         }
+    }
+}
+
+/// The arguments of the process. It does not tell them.
+#[derive(Drop)]
+pub struct StdArguments<E: Env + Drop> {
+    env: E,
+}
+
+impl<E: Env + Drop> StdArguments<E> {
+    pub fn new(env: E) -> StdArguments<E>
+        ensures { result ≡ record { env = env } }
+    {
+        StdArguments { env }
+    }
+}
+
+impl<E: Env + Drop> Arguments for StdArguments<E> {
+    ghost given = { λ _. None };
+
+    fn argument(&self, index: usize, buffer: &mut [u8]) -> Result<usize, FillError> {
+        self.env.arg(index, buffer)
     }
 }

@@ -1,30 +1,36 @@
 //! The words of the command line.
-ghost use Rattle.std.specs.Prelude.{◌≡◌, ◌↔◌, ◌⊎◌, ◌≤◌, ℕ, Err, IfErr, IfOk, length, take};
-ghost use Rattle.std.specs.Str.{encode_utf8_all, IsUtf8};
+ghost use Rattle.std.specs.Prelude.{◌≡◌, ◌↔◌, ◌⊎◌, ◌≤◌, ℕ, Err, IfErr, IfOk, IfSome, IsSomeAnd, length, slice_get, take};
+ghost use Rattle.std.specs.Str.{IsUtf8};
+ghost use Rattle.rx_run.specs.Arguments.{AreWords, HasNoText, IsNotCopied, IsWord, IsWordAt};
 
+use crate::arguments::Arguments;
 use crate::run::Status;
 use rx_base::{List, Text};
 use std::alloc::Global;
-use std::env::{Env, FillError};
+use std::env::FillError;
 
-/// The words after the program's name, or the status to end with: `Usage` where a word is no UTF-8, `OutOfMemory` where memory is
-/// wanting.
-pub fn words<E: Env>(env: &E, alloc: Global) -> Result<List<Text>, Status>
-    ensures { IfErr result (λ status. (status ≡ Status.Usage) ⊎ (status ≡ Status.OutOfMemory)) }
+/// The words after the program's name, all of them and in order, or the status to end with: `Usage` where the first word that is no text is no
+/// UTF-8, `OutOfMemory` where memory is wanting before that.
+pub fn words<A: Arguments>(arguments: &A, alloc: Global) -> Result<List<Text>, Status>
+    ensures ok { IfOk result (λ words. IfSome (A.given arguments.now) (λ given. AreWords given words)) }
+    ensures usage { result ≡ Err Status.Usage → IfSome (A.given arguments.now) HasNoText }
+    ensures err { IfErr result (λ status. (status ≡ Status.Usage) ⊎ (status ≡ Status.OutOfMemory)) }
 {
     let mut words = List::new(alloc);
-    for i in 1..usize::MAX {
-        match word(env, alloc, i)? {
+    for index in 1..usize::MAX {
+        match word(arguments, alloc, index)? {
             Some(word) => words.push(word)?,
-            None => break,
+            None => return Ok(words),
         }
     }
-    Ok(words)
+    Err(Status::OutOfMemory)
 }
 
-/// A word, or none past the last. The buffer grows until the word fits.
-fn word<E: Env>(env: &E, alloc: Global, i: usize) -> Result<Option<Text>, Status>
-    ensures { IfErr result (λ status. (status ≡ Status.Usage) ⊎ (status ≡ Status.OutOfMemory)) }
+/// The word at an index, or none exactly past the last. The buffer grows until the word fits.
+fn word<A: Arguments>(arguments: &A, alloc: Global, index: usize) -> Result<Option<Text>, Status>
+    ensures ok { IfOk result (λ word. IfSome (A.given arguments.now) (λ given. IsWordAt given index word)) }
+    ensures usage { result ≡ Err Status.Usage → IfSome (A.given arguments.now) (λ given. IsSomeAnd (slice_get given index) (λ bytes. ¬ IsUtf8 bytes)) }
+    ensures err { IfErr result (λ status. (status ≡ Status.Usage) ⊎ (status ≡ Status.OutOfMemory)) }
 {
     let mut len = 256usize;
     for _ in 0..usize::BITS {
@@ -32,7 +38,7 @@ fn word<E: Env>(env: &E, alloc: Global, i: usize) -> Result<Option<Text>, Status
         if buffer.resize(len, 0u8).is_err() {
             break;
         }
-        match word_in(env, alloc, i, buffer.as_mut_slice())? {
+        match word_in(arguments, alloc, index, buffer.as_mut_slice())? {
             Ok(word) => return Ok(Some(word)),
             Err(FillError::NotPresent) => return Ok(None),
             Err(FillError::TooLong) => len = len.saturating_mul(2),
@@ -42,17 +48,22 @@ fn word<E: Env>(env: &E, alloc: Global, i: usize) -> Result<Option<Text>, Status
 }
 
 /// The word that some front of the buffer spells, or why none was copied there. The outer error is the status to end with.
-fn word_in<E: Env>(
-    env: &E,
+fn word_in<A: Arguments>(
+    arguments: &A,
     alloc: Global,
-    i: usize,
+    index: usize,
     buffer: &mut [u8],
 ) -> Result<Result<Text, FillError>, Status>
-    ensures ok { IfOk result (λ copied. IfOk copied (λ word. (count : ℕ) × (count ≤ length buffer.new) × (encode_utf8_all word ≡ take count buffer.new))) }
+    ensures ok { IfOk result (λ copied. IfOk copied (λ word. (count : ℕ) × (count ≤ length buffer.new) × IsWord (take count buffer.new) word)) }
     ensures usage { result ≡ Err Status.Usage → (count : ℕ) × (count ≤ length buffer.new) × ¬ IsUtf8 (take count buffer.new) }
+
+    // The same where the arguments are told.
+    ensures word { IfOk result (λ copied. IfOk copied (λ word. IfSome (A.given arguments.now) (λ given. IsSomeAnd (slice_get given index) (λ bytes. IsWord bytes word)))) }
+    ensures fault { IfOk result (λ copied. IfErr copied (λ fault. IfSome (A.given arguments.now) (λ given. IsNotCopied fault (slice_get given index) (length buffer.old)))) }
+    ensures no_text { result ≡ Err Status.Usage → IfSome (A.given arguments.now) (λ given. IsSomeAnd (slice_get given index) (λ bytes. ¬ IsUtf8 bytes)) }
     ensures err { IfErr result (λ status. (status ≡ Status.Usage) ⊎ (status ≡ Status.OutOfMemory)) }
 {
-    match env.arg(i, buffer) {
+    match arguments.argument(index, buffer) {
         Ok(count) => Ok(Ok(text(alloc, &buffer[..count])?)),
         Err(fault) => Ok(Err(fault)),
     }
@@ -60,7 +71,7 @@ fn word_in<E: Env>(
 
 /// The text whose characters these bytes are.
 fn text(alloc: Global, bytes: &[u8]) -> Result<Text, Status>
-    ensures ok { IfOk result (λ text. encode_utf8_all text ≡ bytes.now) }
+    ensures ok { IfOk result (λ text. IsWord bytes.now text) }
     ensures usage { (result ≡ Err Status.Usage) ↔ ¬ IsUtf8 bytes.now }
     ensures err { IfErr result (λ status. (status ≡ Status.Usage) ⊎ (status ≡ Status.OutOfMemory)) }
 {

@@ -1,12 +1,10 @@
-//! What the program does where its ends fail, and the words of the command line.
+//! What the program does where its ends fail.
 use crate::memory::bytes_of;
 use rx_base::{List, MemorySink, MemorySource, OutOfMemory, Text};
 use rx_rows::{Call, agree};
 use rx_run::run::{Status, run};
 use rx_run::standard::{StdSink, StdSource};
-use rx_run::words::words;
 use std::alloc::Global;
-use std::env::{Env, FillError};
 use std::io::{self, ErrorKind, Read, Write};
 use std::test::Fail;
 
@@ -167,45 +165,5 @@ fn standard_ends_have_faults(rt: HostRuntime) -> Result<(), Fail> {
     let mut sink = StdSink::new(Broken { bytes: b"" });
     let status = run(rt.alloc(), words.as_slice(), &mut source, &mut sink);
     assert_eq!(rt; status, Status::WriteFault);
-    Ok(())
-}
-
-/// The arguments of a process.
-#[derive(Drop)]
-struct Arguments<'a>(&'a [&'a [u8]]);
-
-impl Env for Arguments<'_> {
-    fn arg(&self, i: usize, buf: &mut [u8]) -> Result<usize, FillError> {
-        let Some(argument) = self.0.get(i) else {
-            return Err(FillError::NotPresent);
-        };
-        if argument.len() > buf.len() {
-            return Err(FillError::TooLong);
-        }
-        buf[..argument.len()].copy_from_slice(argument);
-        Ok(argument.len())
-    }
-
-    fn var(&self, _: &str, _: &mut [u8]) -> Result<usize, FillError> {
-        Err(FillError::NotPresent)
-    }
-
-    fn var_at(&self, _: usize, _: &mut [u8]) -> Result<usize, FillError> {
-        Err(FillError::NotPresent)
-    }
-}
-
-#[test]
-fn words_are_taken(rt: HostRuntime) -> Result<(), Fail> {
-    let long = [b'w'; 1000];
-    let env = Arguments(&[b"\xff", b"foo", &long]);
-    let Ok(taken) = words(&env, rt.alloc()) else {
-        return Err(Fail::new("no words"));
-    };
-    assert_eq!(rt; taken.len(), 2);
-    let second = taken.get(1).ok_or("no second word")?;
-    assert_eq!(rt; second.as_str().as_bytes(), long.as_slice());
-    let refused = words(&Arguments(&[b"name", b"foo", b"\xff"]), rt.alloc());
-    assert!(rt; matches!(refused, Err(Status::Usage)));
     Ok(())
 }

@@ -17,3 +17,5 @@ mod limits;
 mod memory;
 #[cfg(test)]
 mod running;
+#[cfg(test)]
+mod words;
