@@ -3,144 +3,118 @@ use rx_ast::{
     CharacterClassRange, CharacterKind, ClassString, ClassStringDisjunction, Quantifier, Term,
 };
 use rx_base::{List, OutOfMemory, Span};
-use rx_rows::{Call, agree};
+use rx_rows::{Call, agree, text_of};
 use std::alloc::Global;
 use std::test::Fail;
 
-/// Asked is a node by its name, and the characters in it, each by its kind and by its value in hexadecimal. In the answer a character that is no sign of
-/// ASCII stands by its number, as `«9»`.
+const KINDS: [(&str, CharacterKind); 10] = [
+    ("symbol", CharacterKind::Symbol),
+    ("unicode", CharacterKind::UnicodeEscape),
+    ("hex", CharacterKind::HexadecimalEscape),
+    ("identifier", CharacterKind::Identifier),
+    ("single", CharacterKind::SingleEscape),
+    ("control", CharacterKind::ControlLetter),
+    ("null", CharacterKind::Null),
+    ("octal1", CharacterKind::Octal1),
+    ("octal2", CharacterKind::Octal2),
+    ("octal3", CharacterKind::Octal3),
+];
+
+/// A character that is written by its kind and by its value in hexadecimal.
+fn character_of(word: &str) -> Option<Character> {
+    let (kind, value) = word.split_once(':')?;
+    let (_, kind) = *KINDS.iter().find(|(name, _)| *name == kind)?;
+    Some(Character {
+        span: Span::empty(0),
+        kind,
+        value: u32::from_str_radix(value, 16).ok()?,
+    })
+}
+
+/// Asked is a node by its name, and the characters in it. In an alternative a `*` after a character repeats it.
 struct Shown;
 
 impl Call for Shown {
     fn answer(&self, alloc: Global, asked: &str) -> Result<String, Fail> {
         let (node, written) = asked.split_once(' ').ok_or("no characters")?;
-        let all = characters_of(alloc, written)?;
-        let characters = all.as_slice();
-        let text = match node {
-            "character" => format!(in alloc; "{}", at(characters, 0)?)?,
-            "alternative" => format!(in alloc; "{}", alternative(alloc, characters)?)?,
-            "first*" => format!(in alloc; "{}", first_repeated(alloc, characters)?)?,
-            "last*" => format!(in alloc; "{}", last_repeated(alloc, characters)?)?,
-            "range" => format!(in alloc; "{}", range(characters)?)?,
-            "strings" => format!(in alloc; "{}", strings(alloc, characters)?)?,
-            _ => format!(in alloc; "{}", class(alloc, kind_of_class(node)?, characters)?)?,
-        };
-        notation(alloc, text.as_str())
+        match node {
+            "character" => {
+                let character = character_of(written).ok_or("no character")?;
+                Ok(format!(in alloc; "{character}")?)
+            }
+            "alternative" => Ok(format!(in alloc; "{}", alternative(alloc, written)?)?),
+            "union" => class(alloc, CharacterClassContentsKind::Union, written),
+            "intersection" => class(alloc, CharacterClassContentsKind::Intersection, written),
+            "subtraction" => class(alloc, CharacterClassContentsKind::Subtraction, written),
+            _ => pair(alloc, node, written),
+        }
     }
 }
 
-fn characters_of(alloc: Global, written: &str) -> Result<List<Character>, Fail> {
-    let mut characters = List::new(alloc);
-    for word in written.split(' ') {
-        let (kind, value) = word.split_once(':').ok_or("a character with no value")?;
-        characters.push(Character {
-            span: Span::empty(0),
-            kind: kind_of(kind)?,
-            value: u32::from_str_radix(value, 16)
-                .ok()
-                .ok_or("a value that is no number")?,
-        })?;
-    }
-    Ok(characters)
-}
-
-fn kind_of(name: &str) -> Result<CharacterKind, Fail> {
-    match name {
-        "symbol" => Ok(CharacterKind::Symbol),
-        "unicode" => Ok(CharacterKind::UnicodeEscape),
-        "hex" => Ok(CharacterKind::HexadecimalEscape),
-        "identifier" => Ok(CharacterKind::Identifier),
-        "single" => Ok(CharacterKind::SingleEscape),
-        "control" => Ok(CharacterKind::ControlLetter),
-        "null" => Ok(CharacterKind::Null),
-        "octal1" => Ok(CharacterKind::Octal1),
-        "octal2" => Ok(CharacterKind::Octal2),
-        "octal3" => Ok(CharacterKind::Octal3),
-        _ => Err(Fail::new("no such kind")),
-    }
-}
-
-fn kind_of_class(name: &str) -> Result<CharacterClassContentsKind, Fail> {
-    match name {
-        "union" => Ok(CharacterClassContentsKind::Union),
-        "intersection" => Ok(CharacterClassContentsKind::Intersection),
-        "subtraction" => Ok(CharacterClassContentsKind::Subtraction),
-        _ => Err(Fail::new("no such node")),
-    }
-}
-
-fn at(characters: &[Character], index: usize) -> Result<Character, Fail> {
-    let character = characters.get(index).ok_or("too few characters")?;
-    Ok(*character)
-}
-
-fn alternative(alloc: Global, characters: &[Character]) -> Result<Alternative, OutOfMemory> {
+fn alternative(alloc: Global, written: &str) -> Result<Alternative, Fail> {
+    let span = Span::empty(0);
     let mut body = List::new(alloc);
-    for character in characters {
-        body.push(Term::Character(*character))?;
+    for word in written.split(' ') {
+        body.push(term_of(alloc, word)?)?;
     }
-    Ok(Alternative {
-        span: Span::empty(0),
-        body,
-    })
+    Ok(Alternative { span, body })
 }
 
-fn repeated(alloc: Global, character: Character) -> Result<Term, OutOfMemory> {
+fn term_of(alloc: Global, word: &str) -> Result<Term, Fail> {
+    let Some(repeated) = word.strip_suffix('*') else {
+        return Ok(Term::Character(character_of(word).ok_or("no character")?));
+    };
     let quantifier = Quantifier {
         span: Span::empty(0),
         min: 0,
         max: None,
         greedy: true,
-        body: Term::Character(character),
+        body: Term::Character(character_of(repeated).ok_or("no character")?),
     };
     Ok(Term::Quantifier(Box::new(alloc, quantifier)?))
 }
 
-fn two_terms(alloc: Global, first: Term, last: Term) -> Result<Alternative, OutOfMemory> {
+fn class(alloc: Global, kind: CharacterClassContentsKind, written: &str) -> Result<String, Fail> {
+    let mut body = List::new(alloc);
+    for word in written.split(' ') {
+        let character = character_of(word).ok_or("no character")?;
+        body.push(CharacterClassContents::Character(character))?;
+    }
+    let class = CharacterClass {
+        span: Span::empty(0),
+        negative: false,
+        strings: false,
+        kind,
+        body,
+    };
+    Ok(format!(in alloc; "{class}")?)
+}
+
+/// A range between two characters, or the string of both, twice.
+fn pair(alloc: Global, node: &str, written: &str) -> Result<String, Fail> {
+    let span = Span::empty(0);
+    let (first, last) = written.split_once(' ').ok_or("one character")?;
+    let min = character_of(first).ok_or("no character")?;
+    let max = character_of(last).ok_or("no character")?;
+    if node == "range" {
+        return Ok(format!(in alloc; "{}", CharacterClassRange { span, min, max })?);
+    }
+    let mut body = List::new(alloc);
+    body.push(string(alloc, min, max)?)?;
+    body.push(string(alloc, min, max)?)?;
+    let strings = true;
+    let disjunction = ClassStringDisjunction {
+        span,
+        strings,
+        body,
+    };
+    Ok(format!(in alloc; "{disjunction}")?)
+}
+
+fn string(alloc: Global, first: Character, last: Character) -> Result<ClassString, OutOfMemory> {
     let mut body = List::new(alloc);
     body.push(first)?;
     body.push(last)?;
-    Ok(Alternative {
-        span: Span::empty(0),
-        body,
-    })
-}
-
-fn first_repeated(alloc: Global, characters: &[Character]) -> Result<Alternative, Fail> {
-    let first = repeated(alloc, at(characters, 0)?)?;
-    Ok(two_terms(alloc, first, Term::Character(at(characters, 1)?))?)
-}
-
-fn last_repeated(alloc: Global, characters: &[Character]) -> Result<Alternative, Fail> {
-    let last = repeated(alloc, at(characters, 1)?)?;
-    Ok(two_terms(alloc, Term::Character(at(characters, 0)?), last)?)
-}
-
-fn range(characters: &[Character]) -> Result<CharacterClassRange, Fail> {
-    Ok(CharacterClassRange {
-        span: Span::empty(0),
-        min: at(characters, 0)?,
-        max: at(characters, 1)?,
-    })
-}
-
-/// The string of the characters, twice.
-fn strings(alloc: Global, characters: &[Character]) -> Result<ClassStringDisjunction, OutOfMemory> {
-    let mut body = List::new(alloc);
-    body.push(string(alloc, characters)?)?;
-    body.push(string(alloc, characters)?)?;
-    Ok(ClassStringDisjunction {
-        span: Span::empty(0),
-        strings: true,
-        body,
-    })
-}
-
-fn string(alloc: Global, characters: &[Character]) -> Result<ClassString, OutOfMemory> {
-    let mut body = List::new(alloc);
-    for character in characters {
-        body.push(*character)?;
-    }
     Ok(ClassString {
         span: Span::empty(0),
         strings: true,
@@ -148,35 +122,10 @@ fn string(alloc: Global, characters: &[Character]) -> Result<ClassString, OutOfM
     })
 }
 
-fn class(
-    alloc: Global,
-    kind: CharacterClassContentsKind,
-    characters: &[Character],
-) -> Result<CharacterClass, OutOfMemory> {
-    let mut body = List::new(alloc);
-    for character in characters {
-        body.push(CharacterClassContents::Character(*character))?;
-    }
-    Ok(CharacterClass {
-        span: Span::empty(0),
-        negative: false,
-        strings: false,
-        kind,
-        body,
-    })
-}
-
-/// The text, where a character that is no sign of ASCII stands by its number.
-fn notation(alloc: Global, text: &str) -> Result<String, Fail> {
-    let mut written = String::new(alloc);
-    for character in text.chars() {
-        if character.is_ascii_graphic() {
-            written.push(character)?;
-        } else {
-            written.push_str(format!(in alloc; "«{:X}»", u32::from(character))?.as_str())?;
-        }
-    }
-    Ok(written)
+/// In the rows `«9»` stands for the character U+0009, and so on.
+fn agree_in_text(alloc: Global, rows: &str) -> Result<(), Fail> {
+    let rows = text_of(alloc, rows)?.ok_or("no such character")?;
+    agree(alloc, &Shown, &rows)
 }
 
 #[test]
@@ -197,7 +146,7 @@ character null:0 => \0
 character null:61 => \0
 character null:D800 => \0
 character null:110000 => \0";
-    agree(rt.alloc(), &Shown, raw)?;
+    agree_in_text(rt.alloc(), raw)?;
     let hexadecimal = r"character unicode:0 => \u0000
 character unicode:2A => \u002A
 character unicode:D800 => \uD800
@@ -213,7 +162,7 @@ character hex:100 => \x100
 character hex:10FFFF => \x10FFFF
 character hex:DFFF => \uDFFF
 character hex:110000 => \u{110000}";
-    agree(rt.alloc(), &Shown, hexadecimal)?;
+    agree_in_text(rt.alloc(), hexadecimal)?;
     let letters = r"character single:7 => \«7»
 character single:8 => \b
 character single:9 => \t
@@ -235,7 +184,7 @@ character control:D800 => \uD800
 character control:FFFF => \uFFFF
 character control:10000 => \u{10000}
 character control:110000 => \u{110000}";
-    agree(rt.alloc(), &Shown, letters)?;
+    agree_in_text(rt.alloc(), letters)?;
     let octal = r"character octal1:0 => \0
 character octal1:7 => \7
 character octal1:8 => \10
@@ -254,7 +203,7 @@ character octal3:200 => \1000
 character octal1:D800 => \uD800
 character octal2:DFFF => \uDFFF
 character octal3:110000 => \u{110000}";
-    agree(rt.alloc(), &Shown, octal)
+    agree_in_text(rt.alloc(), octal)
 }
 
 #[test]
@@ -276,9 +225,9 @@ alternative symbol:D800 symbol:E000 => \uD800«E000»
 alternative symbol:DE00 symbol:D83D => \uDE00\uD83D
 alternative symbol:D83D symbol:D83D symbol:DE00 symbol:DE00 => \uD83D«1F600»\uDE00
 alternative symbol:D83D symbol:61 symbol:DE00 => \uD83Da\uDE00
-first* symbol:D83D symbol:DE00 => \uD83D*\uDE00
-last* symbol:D83D symbol:DE00 => \uD83D\uDE00*";
-    agree(rt.alloc(), &Shown, alternatives)?;
+alternative symbol:D83D* symbol:DE00 => \uD83D*\uDE00
+alternative symbol:D83D symbol:DE00* => \uD83D\uDE00*";
+    agree_in_text(rt.alloc(), alternatives)?;
     let classes = r"union symbol:D83D symbol:DE00 symbol:61 => [«1F600»a]
 intersection symbol:61 => [a]
 intersection symbol:61 symbol:62 hex:63 => [a&&b&&\x63]
@@ -291,5 +240,5 @@ range symbol:61 unicode:63 => a-\u0063
 range symbol:D83D symbol:DE00 => \uD83D-\uDE00
 strings symbol:61 single:A => \q{a\n|a\n}
 strings symbol:D83D symbol:DE00 => \q{\uD83D\uDE00|\uD83D\uDE00}";
-    agree(rt.alloc(), &Shown, classes)
+    agree_in_text(rt.alloc(), classes)
 }

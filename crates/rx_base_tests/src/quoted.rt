@@ -1,85 +1,54 @@
 //! The decoders of quoted texts. A row asks for a text, and has its span and each unit that it is decoded to, with `x` or `u` after one that was escaped
 //! so; or the fault and its span.
-ghost use Rattle.std.specs.Prelude.{◌+◌, ◌<◌, ◌≤◌, ◌^◌, length};
+ghost use Rattle.std.specs.Prelude.{◌<◌, ◌^◌, length};
 
+use crate::units::Walk;
 use rx_base::{List, Span};
-use rx_rows::{Call, agree, short, text_of};
+use rx_rows::{Call, agree, text_of};
 use rx_units::string_literal_parser::{LegacyKind, StringFault, StringLiteralKind};
 use rx_units::template_literal_parser::TemplateFault;
 use rx_units::{
-    CodePoint, EscapeKind, Options, Reader, ReaderFault, string_literal_parser,
-    template_literal_parser,
+    CodePoint, EscapeKind, Options, ReaderFault, string_literal_parser, template_literal_parser,
 };
 use std::alloc::Global;
 use std::test::Fail;
 
-/// How a text is decoded: as a template or as a string, which stands in strict mode code or not, at byte 0 or at byte 10, and as the standard has it or not.
+/// Asked is what stands between the quotes; where a quote is empty, a text with its quotes.
 #[derive(Clone, Copy)]
-struct Decoder {
+struct Quoted {
+    quote: &'static str,
     template: bool,
-    strict_mode: bool,
-    at_ten: bool,
-    joined: bool,
-    standard: bool,
+    options: Options,
 }
 
-const STRING: Decoder = Decoder {
-    template: false,
-    strict_mode: false,
-    at_ten: false,
-    joined: true,
-    standard: false,
-};
-
-const TEMPLATE: Decoder = Decoder {
-    template: true,
-    ..STRING
-};
-
-impl Decoder {
-    fn options(&self) -> Options
-        ensures { result.span_offset ≤ 10 }
-    {
-        Options {
-            strict_mode: self.strict_mode,
-            span_offset: if self.at_ten { 10 } else { 0 },
-            combine_surrogate_pair: self.joined,
-            standard_strings: self.standard,
-        }
+impl Call for Quoted {
+    fn answer(&self, alloc: Global, asked: &str) -> Result<String, Fail> {
+        let quote = self.quote;
+        let inner = text_of(alloc, asked)?.ok_or("no such character")?;
+        let text = format!(in alloc; "{quote}{inner}{quote}")?;
+        decode(alloc, &text, self.template, self.options)
     }
+}
 
-    fn decode(&self, alloc: Global, text: &str) -> Result<String, Fail> {
-        let text = short(text)?;
-        let options = self.options();
-        if self.template {
-            template(alloc, text, options)
-        } else {
-            string(alloc, text, options)
+fn decode(alloc: Global, text: &str, template: bool, options: Options) -> Result<String, Fail> {
+    if text.len() > (u32::MAX - options.span_offset) as usize {
+        return Err(Fail::new("past the greatest offset"));
+    }
+    if template {
+        match template_literal_parser::Parser::new(alloc, text, options)?.parse() {
+            Ok(it) => units(alloc, it.span, &it.body),
+            Err(fault) => fault_text(alloc, ReaderFault::Template(fault)),
+        }
+    } else {
+        match string_literal_parser::Parser::new(alloc, text, options)?.parse() {
+            Ok(it) => units(alloc, it.span, &it.body),
+            Err(fault) => fault_text(alloc, ReaderFault::String(fault)),
         }
     }
 }
 
-fn string(alloc: Global, text: &str, options: Options) -> Result<String, Fail>
-    requires { options.span_offset + length text.now < 2 ^ 32 }
-{
-    let parser = string_literal_parser::Parser::new(alloc, text, options)?;
-    match parser.parse() {
-        Ok(it) => units(alloc, it.span, &it.body),
-        Err(fault) => string_fault(alloc, fault),
-    }
-}
-
-fn template(alloc: Global, text: &str, options: Options) -> Result<String, Fail>
-    requires { options.span_offset + length text.now < 2 ^ 32 }
-{
-    let parser = template_literal_parser::Parser::new(alloc, text, options)?;
-    match parser.parse() {
-        Ok(it) => units(alloc, it.span, &it.body),
-        Err(fault) => template_fault(alloc, fault),
-    }
-}
-
-fn units(alloc: Global, span: Span, body: &List<CodePoint>) -> Result<String, Fail> {
+/// A span, and after a colon the value and the span of each unit, with `x` or `u` after one that was escaped so.
+pub fn units(alloc: Global, span: Span, body: &List<CodePoint>) -> Result<String, Fail> {
     let mut shown = format!(in alloc; "{}..{}:", span.start, span.end)?;
     for unit in body.as_slice() {
         let Span { start, end } = unit.span;
@@ -94,75 +63,76 @@ fn units(alloc: Global, span: Span, body: &List<CodePoint>) -> Result<String, Fa
     Ok(shown)
 }
 
-fn string_fault(alloc: Global, fault: StringFault) -> Result<String, Fail> {
-    let (name, span) = match fault {
-        StringFault::OutOfMemory => return Err(Fail::new("out of memory")),
-        StringFault::InvalidInput { span } => ("invalid", span),
-        StringFault::LegacyInStrictMode { what, span } => match what {
-            LegacyKind::Octal => ("octal", span),
-            LegacyKind::NonOctalDecimal => ("non octal", span),
+fn fault_text(alloc: Global, fault: ReaderFault) -> Result<String, Fail> {
+    let (name, span) = named(fault).ok_or("out of memory")?;
+    Ok(format!(in alloc; "{name} {}..{}", span.start, span.end)?)
+}
+
+/// The name and the span of a fault, but where memory ran out.
+fn named(fault: ReaderFault) -> Option<(&'static str, Span)> {
+    match fault {
+        ReaderFault::OutOfMemory => None,
+        ReaderFault::String(fault) => match fault {
+            StringFault::OutOfMemory => None,
+            StringFault::InvalidInput { span } => Some(("invalid", span)),
+            StringFault::LegacyInStrictMode { what, span } => match what {
+                LegacyKind::Octal => Some(("octal", span)),
+                LegacyKind::NonOctalDecimal => Some(("non octal", span)),
+            },
+            StringFault::TooLargeUnicodeEscapeSequence { span } => Some(("too large", span)),
         },
-        StringFault::TooLargeUnicodeEscapeSequence { span } => ("too large", span),
-    };
-    Ok(format!(in alloc; "{name} {}..{}", span.start, span.end)?)
-}
-
-fn template_fault(alloc: Global, fault: TemplateFault) -> Result<String, Fail> {
-    let (name, span) = match fault {
-        TemplateFault::OutOfMemory => return Err(Fail::new("out of memory")),
-        TemplateFault::InvalidInput { span } => ("invalid", span),
-        TemplateFault::TemplateSubstitution { span } => ("substitution", span),
-        TemplateFault::TooLargeUnicodeEscapeSequence { span } => ("too large", span),
-        TemplateFault::InvalidHexEscape { span } => ("hex", span),
-        TemplateFault::InvalidUnicodeEscape { span } => ("unicode", span),
-        TemplateFault::NotEscapeSequence { span } => ("no escape", span),
-    };
-    Ok(format!(in alloc; "{name} {}..{}", span.start, span.end)?)
-}
-
-/// Asked is a text with its quotes.
-#[derive(Clone, Copy)]
-struct Whole(Decoder);
-
-impl Call for Whole {
-    fn answer(&self, alloc: Global, asked: &str) -> Result<String, Fail> {
-        let text = text_of(alloc, asked)?.ok_or("no such character")?;
-        self.0.decode(alloc, &text)
+        ReaderFault::Template(fault) => match fault {
+            TemplateFault::OutOfMemory => None,
+            TemplateFault::InvalidInput { span } => Some(("invalid", span)),
+            TemplateFault::TemplateSubstitution { span } => Some(("substitution", span)),
+            TemplateFault::TooLargeUnicodeEscapeSequence { span } => Some(("too large", span)),
+            TemplateFault::InvalidHexEscape { span } => Some(("hex", span)),
+            TemplateFault::InvalidUnicodeEscape { span } => Some(("unicode", span)),
+            TemplateFault::NotEscapeSequence { span } => Some(("no escape", span)),
+        },
     }
 }
 
-/// Asked is what stands between the quotes.
-#[derive(Clone, Copy)]
-struct Between {
-    quote: char,
-    decoder: Decoder,
-}
-
-impl Call for Between {
-    fn answer(&self, alloc: Global, asked: &str) -> Result<String, Fail> {
-        let inner = text_of(alloc, asked)?.ok_or("no such character")?;
-        let quote = self.quote;
-        let text = format!(in alloc; "{quote}{inner}{quote}")?;
-        self.decoder.decode(alloc, &text)
-    }
-}
-
-const DOUBLE_QUOTES: Between = Between {
-    quote: '"',
-    decoder: STRING,
+/// As the Rust crate decodes, from byte 0 on.
+const SLOPPY: Options = Options {
+    strict_mode: false,
+    span_offset: 0,
+    combine_surrogate_pair: true,
+    standard_strings: false,
 };
 
-const SINGLE_QUOTES: Between = Between {
-    quote: '\'',
-    decoder: STRING,
+const STRICT: Options = Options {
+    strict_mode: true,
+    ..SLOPPY
 };
 
-const GRAVE_ACCENTS: Between = Between {
-    quote: '`',
-    decoder: TEMPLATE,
+const STRING: Quoted = Quoted {
+    quote: "",
+    template: false,
+    options: SLOPPY,
 };
 
-const ALL_QUOTES: [Between; 3] = [DOUBLE_QUOTES, SINGLE_QUOTES, GRAVE_ACCENTS];
+const TEMPLATE: Quoted = Quoted {
+    template: true,
+    ..STRING
+};
+
+const DOUBLE_QUOTES: Quoted = Quoted {
+    quote: "\"",
+    ..STRING
+};
+
+const SINGLE_QUOTES: Quoted = Quoted {
+    quote: "'",
+    ..STRING
+};
+
+const GRAVE_ACCENTS: Quoted = Quoted {
+    quote: "`",
+    ..TEMPLATE
+};
+
+const ALL_QUOTES: [Quoted; 3] = [DOUBLE_QUOTES, SINGLE_QUOTES, GRAVE_ACCENTS];
 
 fn agree_in_strings(alloc: Global, rows: &str) -> Result<(), Fail> {
     agree(alloc, &DOUBLE_QUOTES, rows)?;
@@ -272,11 +242,8 @@ fn digits_after_backslashes_of_templates(rt: HostRuntime) -> Result<(), Fail> {
 \377 => 0..6: 33@1..3 37@3..4 37@4..5
 \8\9 => 0..6: 38@1..3 39@3..5";
     agree(rt.alloc(), &GRAVE_ACCENTS, rows)?;
-    let strict_mode = Between {
-        decoder: Decoder {
-            strict_mode: true,
-            ..TEMPLATE
-        },
+    let strict_mode = Quoted {
+        options: STRICT,
         ..GRAVE_ACCENTS
     };
     agree(rt.alloc(), &strict_mode, rows)
@@ -284,8 +251,8 @@ fn digits_after_backslashes_of_templates(rt: HostRuntime) -> Result<(), Fail> {
 
 #[test]
 fn legacy_escapes_in_strict_mode(rt: HostRuntime) -> Result<(), Fail> {
-    let strict_mode = Decoder {
-        strict_mode: true,
+    let strict_mode = Quoted {
+        options: STRICT,
         ..STRING
     };
     let rows = r#""\0" => 0..4: 0@1..3
@@ -316,7 +283,7 @@ fn legacy_escapes_in_strict_mode(rt: HostRuntime) -> Result<(), Fail> {
 "\x\1" => invalid 1..1
 "\u{100000000}\1" => too large 1..12
 "\1\u{100000000}" => octal 1..3"#;
-    agree(rt.alloc(), &Whole(strict_mode), rows)
+    agree(rt.alloc(), &strict_mode, rows)
 }
 
 #[test]
@@ -404,7 +371,7 @@ a" => invalid 0..0
 '"' => 0..3: 22@1..2
 "`" => 0..3: 60@1..2
 "${a}" => 0..6: 24@1..2 7B@2..3 61@3..4 7D@4..5"#;
-    agree(rt.alloc(), &Whole(STRING), rows)
+    agree(rt.alloc(), &STRING, rows)
 }
 
 #[test]
@@ -432,7 +399,7 @@ a` => invalid 0..0
 `\u{1 => unicode 1..5
 `\u{100000000 => too large 1..12
 `"'` => 0..4: 22@1..2 27@2..3"#;
-    agree(rt.alloc(), &Whole(TEMPLATE), rows)
+    agree(rt.alloc(), &TEMPLATE, rows)
 }
 
 #[test]
@@ -457,22 +424,22 @@ fn surrogates(rt: HostRuntime) -> Result<(), Fail> {
 😀\uDE00 => 0..12: D83D@1..5 DE00@1..5 DE00@5..11u";
     for quotes in ALL_QUOTES {
         agree(rt.alloc(), &quotes, joined)?;
-        let decoder = Decoder {
-            joined: false,
-            ..quotes.decoder
+        let options = Options {
+            combine_surrogate_pair: false,
+            ..SLOPPY
         };
-        agree(rt.alloc(), &Between { decoder, ..quotes }, parted)?;
+        agree(rt.alloc(), &Quoted { options, ..quotes }, parted)?;
     }
     Ok(())
 }
 
-fn in_quotes(quotes: Between, joined: bool) -> Between {
-    let decoder = Decoder {
-        joined,
-        standard: true,
-        ..quotes.decoder
+fn standard(quotes: Quoted, combine_surrogate_pair: bool) -> Quoted {
+    let options = Options {
+        combine_surrogate_pair,
+        standard_strings: true,
+        ..SLOPPY
     };
-    Between { decoder, ..quotes }
+    Quoted { options, ..quotes }
 }
 
 #[test]
@@ -499,8 +466,8 @@ fn values_as_the_standard_has_them(rt: HostRuntime) -> Result<(), Fail> {
 😀 => 0..6: D83D@1..5 DE00@1..5
 \uD83D\«A»\uDE00 => 0..16: D83D@1..7u DE00@9..15u";
     for quotes in ALL_QUOTES {
-        agree(rt.alloc(), &in_quotes(quotes, true), code_points)?;
-        agree(rt.alloc(), &in_quotes(quotes, false), code_units)?;
+        agree(rt.alloc(), &standard(quotes, true), code_points)?;
+        agree(rt.alloc(), &standard(quotes, false), code_units)?;
     }
     Ok(())
 }
@@ -521,22 +488,22 @@ fn templates_as_the_standard_has_them(rt: HostRuntime) -> Result<(), Fail> {
 a\9 => no escape 2..4
 \1\x => no escape 1..3
 \x\1 => hex 3..3";
-    agree(rt.alloc(), &in_quotes(GRAVE_ACCENTS, true), rows)?;
-    agree(rt.alloc(), &in_quotes(GRAVE_ACCENTS, false), rows)?;
+    agree(rt.alloc(), &standard(GRAVE_ACCENTS, true), rows)?;
+    agree(rt.alloc(), &standard(GRAVE_ACCENTS, false), rows)?;
     agree(
         rt.alloc(),
-        &in_quotes(DOUBLE_QUOTES, true),
+        &standard(DOUBLE_QUOTES, true),
         r"\1\8 => 0..6: 1@1..3 38@3..5",
     )
 }
 
 #[test]
 fn spans_with_an_offset(rt: HostRuntime) -> Result<(), Fail> {
-    let string = Decoder {
-        strict_mode: true,
-        at_ten: true,
-        ..STRING
+    let options = Options {
+        span_offset: 10,
+        ..STRICT
     };
+    let string = Quoted { options, ..STRING };
     let rows = r#""" => 10..12:
 "\x41é" => 10..18: 41@11..15x E9@15..17
 'a => invalid 12..12
@@ -545,9 +512,13 @@ x => invalid 10..10
 "\1" => octal 11..13
 "\8" => non octal 11..13
 "\u{100000000}" => too large 11..22"#;
-    agree(rt.alloc(), &Whole(string), rows)?;
-    let template = Decoder {
-        at_ten: true,
+    agree(rt.alloc(), &string, rows)?;
+    let options = Options {
+        span_offset: 10,
+        ..SLOPPY
+    };
+    let template = Quoted {
+        options,
         ..TEMPLATE
     };
     let rows = r"`a«D»«A»` => 10..15: 61@11..12 A@12..14
@@ -558,180 +529,145 @@ x => invalid 10..10
 `\x4` => hex 14..14
 `\u{110000}` => unicode 11..20
 `\u{100000000}` => too large 11..22";
-    agree(rt.alloc(), &Whole(template), rows)
+    agree(rt.alloc(), &template, rows)
 }
-
-const LAST: Options = Options {
-    strict_mode: false,
-    span_offset: 4294967290,
-    combine_surrogate_pair: false,
-    standard_strings: false,
-};
 
 #[test]
 fn spans_end_at_the_greatest_offset(rt: HostRuntime) -> Result<(), Fail> {
-    let wanted = "4294967290..4294967295: A@4294967291..4294967293 61@4294967293..4294967294";
-    assert_eq!(rt; string(rt.alloc(), r"'\na'", LAST)?.as_str(), wanted);
-    assert_eq!(rt; template(rt.alloc(), r"`\na`", LAST)?.as_str(), wanted);
-    Ok(())
+    let options = Options {
+        span_offset: 4294967290,
+        combine_surrogate_pair: false,
+        ..SLOPPY
+    };
+    let rows = r"\na => 4294967290..4294967295: A@4294967291..4294967293 61@4294967293..4294967294";
+    agree(
+        rt.alloc(),
+        &Quoted {
+            options,
+            ..SINGLE_QUOTES
+        },
+        rows,
+    )?;
+    agree(
+        rt.alloc(),
+        &Quoted {
+            options,
+            ..GRAVE_ACCENTS
+        },
+        rows,
+    )
 }
 
 #[test]
 fn kinds_of_strings(rt: HostRuntime) -> Result<(), Fail> {
-    for (text, kind) in [
-        ("\"a\"", StringLiteralKind::Double),
-        ("'a'", StringLiteralKind::Single),
-    ] {
-        let options = STRING.options();
-        let parser = string_literal_parser::Parser::new(rt.alloc(), short(text)?, options)?;
-        assert_eq!(rt; parser.parse()?.kind, kind);
-    }
+    let double = string_literal_parser::Parser::new(rt.alloc(), "\"a\"", SLOPPY)?
+        .parse()?
+        .kind;
+    let single = string_literal_parser::Parser::new(rt.alloc(), "'a'", SLOPPY)?
+        .parse()?
+        .kind;
+    assert_eq!(rt;
+        [double, single],
+        [StringLiteralKind::Double, StringLiteralKind::Single]
+    );
     Ok(())
 }
 
 #[test]
 fn readers_begin_after_the_quote(rt: HostRuntime) -> Result<(), Fail> {
-    for text in [r#""\x41é""#, r"'\x41é'", r"`\x41é`"] {
-        let mut reader = Reader::initialize(rt.alloc(), short(text)?, true, true)?;
-        assert_eq!(rt; reader.checkpoint(), (0, 1));
-        assert_eq!(rt; (reader.peek(), reader.peek2()), (Some(0x41), Some(0xE9)));
-        assert_eq!(rt; reader.peek_escape_kind(), EscapeKind::Hexadecimal);
-        reader.advance();
-        assert_eq!(rt; reader.checkpoint(), (1, 5));
-        assert_eq!(rt; reader.peek_escape_kind(), EscapeKind::None);
-        reader.advance();
-        assert_eq!(rt; reader.checkpoint(), (2, 7));
-        assert_eq!(rt; reader.peek(), None);
-    }
-    Ok(())
-}
-
-/// How many code units a reader has, or which decoder refuses the text, and why.
-#[derive(Clone, Copy)]
-struct ReaderCall;
-
-impl Call for ReaderCall {
-    fn answer(&self, alloc: Global, asked: &str) -> Result<String, Fail> {
-        match Reader::initialize(alloc, short(asked)?, false, true) {
-            Ok(reader) => Ok(format!(in alloc; "{}", reader.remaining_code_points().len())?),
-            Err(ReaderFault::OutOfMemory) => Err(Fail::new("out of memory")),
-            Err(ReaderFault::String(fault)) => {
-                let shown = string_fault(alloc, fault)?;
-                Ok(format!(in alloc; "string: {shown}")?)
-            }
-            Err(ReaderFault::Template(fault)) => {
-                let shown = template_fault(alloc, fault)?;
-                Ok(format!(in alloc; "template: {shown}")?)
-            }
-        }
-    }
+    let rows =
+        r#""\x41é" => 2; (0, 1) Some(65) Some(233) Hexadecimal; (1, 5) Some(233) None None; (2, 7) None None None
+'\x41é' => 2; (0, 1) Some(65) Some(233) Hexadecimal; (1, 5) Some(233) None None; (2, 7) None None None
+`\x41é` => 2; (0, 1) Some(65) Some(233) Hexadecimal; (1, 5) Some(233) None None; (2, 7) None None None"#;
+    let walk = Walk {
+        unicode_mode: true,
+        quoted: true,
+    };
+    agree(rt.alloc(), &walk, rows)
 }
 
 #[test]
 fn readers_of_quoted_texts(rt: HostRuntime) -> Result<(), Fail> {
-    let rows = r#""" => 0
-'ab' => 2
-"\1\8" => 2
-`\18` => 2
-"a😀" => 3
-`\u{1F600}` => 2
- => string: invalid 0..0
-/a/ => string: invalid 0..0
-"a => string: invalid 2..2
-"\u{100000000}" => string: too large 1..12
-`a => template: invalid 2..2
-`${a}` => template: substitution 1..1
-`\x` => template: hex 3..3"#;
-    agree(rt.alloc(), &ReaderCall, rows)
-}
-
-/// Asked is a fault by its name. The answer is its message.
-struct StringMessage;
-
-impl Call for StringMessage {
-    fn answer(&self, alloc: Global, asked: &str) -> Result<String, Fail> {
-        Ok(format!(in alloc; "{}", string_fault_of(asked)?)?)
-    }
-}
-
-fn string_fault_of(name: &str) -> Result<StringFault, Fail> {
-    let span = Span::new(1, 2);
-    match name {
-        "memory" => Ok(StringFault::OutOfMemory),
-        "invalid" => Ok(StringFault::InvalidInput { span }),
-        "octal" => Ok(StringFault::LegacyInStrictMode {
-            what: LegacyKind::Octal,
-            span,
-        }),
-        "non octal" => Ok(StringFault::LegacyInStrictMode {
-            what: LegacyKind::NonOctalDecimal,
-            span,
-        }),
-        "too large" => Ok(StringFault::TooLargeUnicodeEscapeSequence { span }),
-        _ => Err(Fail::new("no such fault")),
-    }
-}
-
-/// The same of templates.
-struct TemplateMessage;
-
-impl Call for TemplateMessage {
-    fn answer(&self, alloc: Global, asked: &str) -> Result<String, Fail> {
-        Ok(format!(in alloc; "{}", template_fault_of(asked)?)?)
-    }
-}
-
-fn template_fault_of(name: &str) -> Result<TemplateFault, Fail> {
-    let span = Span::new(1, 2);
-    match name {
-        "memory" => Ok(TemplateFault::OutOfMemory),
-        "invalid" => Ok(TemplateFault::InvalidInput { span }),
-        "substitution" => Ok(TemplateFault::TemplateSubstitution { span }),
-        "too large" => Ok(TemplateFault::TooLargeUnicodeEscapeSequence { span }),
-        "hex" => Ok(TemplateFault::InvalidHexEscape { span }),
-        "unicode" => Ok(TemplateFault::InvalidUnicodeEscape { span }),
-        "no escape" => Ok(TemplateFault::NotEscapeSequence { span }),
-        _ => Err(Fail::new("no such fault")),
-    }
-}
-
-/// The same of readers.
-struct ReaderMessage;
-
-impl Call for ReaderMessage {
-    fn answer(&self, alloc: Global, asked: &str) -> Result<String, Fail> {
-        Ok(format!(in alloc; "{}", reader_fault_of(asked)?)?)
-    }
-}
-
-fn reader_fault_of(name: &str) -> Result<ReaderFault, Fail> {
-    let Some((decoder, fault)) = name.split_once(' ') else {
-        return Ok(ReaderFault::OutOfMemory);
+    let rows = r#""" => 0; (0, 1) None None None
+'ab' => 2; (0, 1) Some(97) Some(98) None; (1, 2) Some(98) None None; (2, 3) None None None
+"\1\8" => 2; (0, 1) Some(1) Some(56) None; (1, 3) Some(56) None None; (2, 5) None None None
+`\18` => 2; (0, 1) Some(49) Some(56) None; (1, 3) Some(56) None None; (2, 4) None None None
+"a😀" => 3; (0, 1) Some(97) Some(55357) None; (1, 2) Some(55357) Some(56832) None; (2, 6) Some(56832) None None; (3, 6) None None None
+`\u{1F600}` => 2; (0, 1) Some(55357) Some(56832) Unicode; (1, 10) Some(56832) None Unicode; (2, 10) None None None
+ => String(InvalidInput { span: Span { start: 0, end: 0 } })
+/a/ => String(InvalidInput { span: Span { start: 0, end: 0 } })
+"a => String(InvalidInput { span: Span { start: 2, end: 2 } })
+"\u{100000000}" => String(TooLargeUnicodeEscapeSequence { span: Span { start: 1, end: 12 } })
+`a => Template(InvalidInput { span: Span { start: 2, end: 2 } })
+`${a}` => Template(TemplateSubstitution { span: Span { start: 1, end: 1 } })
+`\x` => Template(InvalidHexEscape { span: Span { start: 3, end: 3 } })"#;
+    let walk = Walk {
+        unicode_mode: false,
+        quoted: true,
     };
-    match decoder {
-        "string" => Ok(ReaderFault::String(string_fault_of(fault)?)),
-        _ => Ok(ReaderFault::Template(template_fault_of(fault)?)),
-    }
+    agree(rt.alloc(), &walk, rows)
 }
+
+const MESSAGES_OF_STRINGS: &str = "Out of memory
+String literal should be wrapped with ' or \", or escaped properly
+Not allowed octal escape sequence in strict mode
+Not allowed non octal decimal escape sequence in strict mode
+Too large unicode escape sequence";
+
+const MESSAGES_OF_TEMPLATES: &str = "Out of memory
+Template literal should be wrapped with ` or escaped properly
+Template literal should not contain unescaped `${}`
+Too large unicode escape sequence
+Invalid hex escape sequence
+Invalid unicode escape sequence
+Octal escapes, `\\8` and `\\9` are not allowed in template literals";
+
+const MESSAGES_OF_READERS: &str = "Out of memory
+Too large unicode escape sequence
+Invalid hex escape sequence";
 
 #[test]
 fn messages_of_faults(rt: HostRuntime) -> Result<(), Fail> {
-    let strings = r#"memory => Out of memory
-invalid => String literal should be wrapped with ' or ", or escaped properly
-octal => Not allowed octal escape sequence in strict mode
-non octal => Not allowed non octal decimal escape sequence in strict mode
-too large => Too large unicode escape sequence"#;
-    agree(rt.alloc(), &StringMessage, strings)?;
-    let templates = r"memory => Out of memory
-invalid => Template literal should be wrapped with ` or escaped properly
-substitution => Template literal should not contain unescaped `${}`
-too large => Too large unicode escape sequence
-hex => Invalid hex escape sequence
-unicode => Invalid unicode escape sequence
-no escape => Octal escapes, `\8` and `\9` are not allowed in template literals";
-    agree(rt.alloc(), &TemplateMessage, templates)?;
-    let readers = "memory => Out of memory
-string too large => Too large unicode escape sequence
-template hex => Invalid hex escape sequence";
-    agree(rt.alloc(), &ReaderMessage, readers)
+    let span = Span::new(1, 2);
+    let too_large = StringFault::TooLargeUnicodeEscapeSequence { span };
+    let strings = format!(in rt.alloc();
+        "{}\n{}\n{}\n{}\n{}",
+        StringFault::OutOfMemory,
+        StringFault::InvalidInput { span },
+        StringFault::LegacyInStrictMode {
+            what: LegacyKind::Octal,
+            span
+        },
+        StringFault::LegacyInStrictMode {
+            what: LegacyKind::NonOctalDecimal,
+            span
+        },
+        too_large
+    )?;
+    let hex = TemplateFault::InvalidHexEscape { span };
+    let templates = format!(in rt.alloc();
+        "{}\n{}\n{}\n{}\n{}\n{}\n{}",
+        TemplateFault::OutOfMemory,
+        TemplateFault::InvalidInput { span },
+        TemplateFault::TemplateSubstitution { span },
+        TemplateFault::TooLargeUnicodeEscapeSequence { span },
+        hex,
+        TemplateFault::InvalidUnicodeEscape { span },
+        TemplateFault::NotEscapeSequence { span }
+    )?;
+    let readers = format!(in rt.alloc();
+        "{}\n{}\n{}",
+        ReaderFault::OutOfMemory,
+        ReaderFault::String(too_large),
+        ReaderFault::Template(hex)
+    )?;
+    assert_eq!(rt;
+        [strings.as_str(), templates.as_str(), readers.as_str()],
+        [
+            MESSAGES_OF_STRINGS,
+            MESSAGES_OF_TEMPLATES,
+            MESSAGES_OF_READERS
+        ]
+    );
+    Ok(())
 }

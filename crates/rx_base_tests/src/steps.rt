@@ -7,31 +7,18 @@ use std::marker::Brand;
 use std::sync::ledger::{Blank, Ledger};
 use std::test::Fail;
 
-/// What a counter tells to which three steps were added, and then one.
-fn added<L: Ledger>(blank: Blank) -> u64
-    requires name { blank.name ≡ L.name }
-    requires parts { blank.parts ≡ L.parts }
-    requires one { blank.parts ≡ 1 }
-{
-    let mut tally = Tally::<L>::new(blank);
-    tally.add(3);
-    tally.tick();
-    tally.total()
-}
-
-#[test]
-fn steps_are_added(rt: HostRuntime) {
-    assert_eq!(rt; added::<Brand>(Blank::new(1)), 4);
-}
-
-/// What a counter tells after each call that moves over some of fourteen units, and one that moves over none.
-fn moved_over<L: Ledger>(alloc: Global, blank: Blank) -> Result<u64, Fail>
+/// What a counter tells to which three steps were added, and then one; and what it tells after calls that move over some of fourteen units, and one that
+/// moves over none. And what each of these calls ate.
+fn counted<L: Ledger>(alloc: Global, blank: Blank) -> Result<([u64; 2], [bool; 5]), Fail>
     requires name { blank.name ≡ L.name }
     requires parts { blank.parts ≡ L.parts }
     requires one { blank.parts ≡ 1 }
 {
     let mut reader = Reader::initialize(alloc, "abcdefghijklmn", true, false)?;
     let mut tally = Tally::<L>::new(blank);
+    tally.add(3);
+    tally.tick();
+    let added = tally.total();
     reader.advance_counted(&mut tally);
     reader.skip_counted(2, &mut tally);
     let eaten = [
@@ -41,14 +28,12 @@ fn moved_over<L: Ledger>(alloc: Global, blank: Blank) -> Result<u64, Fail>
         reader.eat3_counted('g', 'h', 'i', &mut tally),
         reader.eat4_counted('j', 'k', 'l', 'm', &mut tally),
     ];
-    if eaten != [false, true, true, true, true] {
-        return Err(Fail::new("other units stand next"));
-    }
-    Ok(tally.total())
+    Ok(([added, tally.total()], eaten))
 }
 
 #[test]
-fn moves_are_counted(rt: HostRuntime) -> Result<(), Fail> {
-    assert_eq!(rt; moved_over::<Brand>(rt.alloc(), Blank::new(1))?, 13);
+fn steps_are_counted(rt: HostRuntime) -> Result<(), Fail> {
+    let counted = counted::<Brand>(rt.alloc(), Blank::new(1))?;
+    assert_eq!(rt; counted, ([4, 17], [false, true, true, true, true]));
     Ok(())
 }

@@ -13,14 +13,53 @@ use rx_tables::{
 use std::alloc::Global;
 use std::test::Fail;
 
+const SETS: [&str; 13] = [
+    "syntax",
+    "syntax of classes",
+    "twice",
+    "before the next",
+    "reserved",
+    "decimal",
+    "octal",
+    "of names",
+    "of values",
+    "ID_Start",
+    "ID_Continue",
+    "first of identifiers",
+    "in identifiers",
+];
+
+/// Which of the sets hold a code point.
+fn holding(code: u32) -> [bool; 13] {
+    [
+        is_syntax_character(code),
+        is_class_set_syntax_character(code),
+        is_class_set_reserved_double_punctuator(code, code),
+        is_class_set_reserved_double_punctuator(code, code.saturating_add(1)),
+        is_class_set_reserved_punctuator(code),
+        is_decimal_digit(code),
+        is_octal_digit(code),
+        is_unicode_property_name_character(code),
+        is_unicode_property_value_character(code),
+        is_unicode_id_start(code),
+        is_unicode_id_continue(code),
+        is_identifier_start_char(code),
+        is_identifier_part_char(code),
+    ]
+}
+
 /// Asked is a set by its name. The answer has the characters up to U+0080 that it holds, in order, or that there are none.
 struct Members;
 
 impl Call for Members {
     fn answer(&self, alloc: Global, asked: &str) -> Result<String, Fail> {
+        let set = SETS
+            .iter()
+            .position(|name| *name == asked)
+            .ok_or("no such set")?;
         let mut members = String::new(alloc);
         for byte in 0..=0x80u8 {
-            if holds(asked, u32::from(byte))? {
+            if holding(u32::from(byte)).get(set) == Some(&true) {
                 members.push(char::from(byte))?;
             }
         }
@@ -28,34 +67,6 @@ impl Call for Members {
             members.push_str("none")?;
         }
         Ok(members)
-    }
-}
-
-fn holds(set: &str, code: u32) -> Result<bool, Fail> {
-    match set {
-        "syntax" => Ok(is_syntax_character(code)),
-        "syntax of classes" => Ok(is_class_set_syntax_character(code)),
-        "twice" => Ok(is_class_set_reserved_double_punctuator(code, code)),
-        "before the next" => Ok(is_class_set_reserved_double_punctuator(
-            code,
-            code.saturating_add(1),
-        )),
-        "reserved" => Ok(is_class_set_reserved_punctuator(code)),
-        "decimal" => Ok(is_decimal_digit(code)),
-        "octal" => Ok(is_octal_digit(code)),
-        _ => holds_letters(set, code),
-    }
-}
-
-fn holds_letters(set: &str, code: u32) -> Result<bool, Fail> {
-    match set {
-        "of names" => Ok(is_unicode_property_name_character(code)),
-        "of values" => Ok(is_unicode_property_value_character(code)),
-        "ID_Start" => Ok(is_unicode_id_start(code)),
-        "ID_Continue" => Ok(is_unicode_id_continue(code)),
-        "first of identifiers" => Ok(is_identifier_start_char(code)),
-        "in identifiers" => Ok(is_identifier_part_char(code)),
-        _ => Err(Fail::new("no such set")),
     }
 }
 
@@ -77,173 +88,119 @@ in identifiers => $0123456789ABCDEFGHIJKLMNOPQRSTUVWXYZ_abcdefghijklmnopqrstuvwx
     agree(rt.alloc(), &Members, rows)
 }
 
-/// Asked is a code point, in hexadecimal.
-struct SetCall {
-    set: &'static str,
-}
-
-impl Call for SetCall {
-    fn answer(&self, alloc: Global, asked: &str) -> Result<String, Fail> {
-        Ok(format!(in alloc; "{}", holds(self.set, code_of(asked)?)?)?)
-    }
-}
-
-fn code_of(digits: &str) -> Result<u32, Fail> {
-    Ok(u32::from_str_radix(digits, 16).ok().ok_or("no number")?)
-}
-
-#[test]
-fn identifiers_past_ascii(rt: HostRuntime) -> Result<(), Fail> {
-    let starts = "7F => false
-80 => false
-AA => true
-B7 => false
-D800 => false
-FFFF => false
-10FFFF => false
-110000 => false";
-    agree(rt.alloc(), &SetCall { set: "ID_Start" }, starts)?;
-    agree(
-        rt.alloc(),
-        &SetCall {
-            set: "first of identifiers",
-        },
-        starts,
-    )?;
-    let parts = "7F => false
-80 => false
-AA => true
-B7 => true
-D800 => false
-FFFF => false
-10FFFF => false
-110000 => false";
-    agree(rt.alloc(), &SetCall { set: "ID_Continue" }, parts)?;
-    agree(
-        rt.alloc(),
-        &SetCall {
-            set: "in identifiers",
-        },
-        parts,
-    )
-}
-
-/// Asked is a code point. The answer has which of the sets of ASCII hold it, whether it is a code point, and what it is mapped to.
-struct PastAscii;
-
-impl Call for PastAscii {
-    fn answer(&self, alloc: Global, asked: &str) -> Result<String, Fail> {
-        let code = code_of(asked)?;
-        let mut shown = String::new(alloc);
-        for set in SETS.split(',') {
-            if holds(set, code)? {
-                shown.push_str(set)?;
-                shown.push(' ')?;
-            }
-        }
-        let maps = maps(alloc, code)?;
-        shown.push_str(format!(in alloc; "{} {maps}", is_valid_unicode(code))?.as_str())?;
-        Ok(shown)
-    }
-}
-
-const SETS: &str = "syntax,syntax of classes,twice,reserved,decimal,octal,of names,of values";
-
-#[test]
-fn no_set_past_ascii(rt: HostRuntime) -> Result<(), Fail> {
-    let rows = "80 => true - - - -
-124 => true - - - -
-130 => true - - - -
-161 => true - - - -
-D800 => true - - - -
-DFFF => true - - - -
-10FFFF => true - - - -
-110000 => false - - - -";
-    agree(rt.alloc(), &PastAscii, rows)
-}
-
 /// The values as a control escape, as the letter of a control escape, as a hexadecimal digit and as a short escape.
-fn maps(alloc: Global, code: u32) -> Result<String, Fail> {
-    let escape = value(alloc, map_control_escape(code))?;
-    let letter = value(alloc, map_c_ascii_letter(code))?;
-    let digit = value(alloc, map_hex_digit(code))?;
-    let short = value(alloc, map_short_escape(code))?;
-    Ok(format!(in alloc; "{escape} {letter} {digit} {short}")?)
+fn mapped_values(code: u32) -> [Option<u32>; 4] {
+    [
+        map_control_escape(code),
+        map_c_ascii_letter(code),
+        map_hex_digit(code),
+        map_short_escape(code),
+    ]
 }
 
-fn value(alloc: Global, value: Option<u32>) -> Result<String, Fail> {
-    match value {
-        None => Ok(String::from_str(alloc, "-")?),
-        Some(value) => Ok(format!(in alloc; "{value}")?),
+/// Code points past ASCII: each with whether it is one at all, whether an identifier may begin with it, and whether it may stand in one.
+const PAST_ASCII: [(u32, bool, bool, bool); 11] = [
+    (0x80, true, false, false),
+    (0xAA, true, true, true),
+    (0xB7, true, false, true),
+    (0x124, true, true, true),
+    (0x130, true, true, true),
+    (0x161, true, true, true),
+    (0xD800, true, false, false),
+    (0xDFFF, true, false, false),
+    (0xFFFF, true, false, false),
+    (0x10FFFF, true, false, false),
+    (0x110000, false, false, false),
+];
+
+#[test]
+fn only_identifiers_go_past_ascii(rt: HostRuntime) {
+    for (code, valid, start, part) in PAST_ASCII {
+        let sets = [
+            false, false, false, false, false, false, false, false, false, start, part, start, part,
+        ];
+        assert_eq!(rt;
+            (is_valid_unicode(code), holding(code), mapped_values(code)),
+            (valid, sets, [None; 4]),
+            "at {code:X}"
+        );
     }
 }
 
 /// Asked is a character.
-struct MapsCall;
+struct Maps;
 
-impl Call for MapsCall {
+impl Call for Maps {
     fn answer(&self, alloc: Global, asked: &str) -> Result<String, Fail> {
         let character = asked.chars().next().ok_or("no character")?;
-        maps(alloc, u32::from(character))
+        Ok(format!(in alloc; "{:?}", mapped_values(u32::from(character)))?)
     }
 }
 
 #[test]
 fn maps_of_ascii(rt: HostRuntime) -> Result<(), Fail> {
-    let rows = "/ => - - - 47
-0 => - - 0 -
-9 => - - 9 -
-: => - - - -
-@ => - - - -
-A => - 1 10 -
-F => - 6 15 -
-G => - 7 - -
-Z => - 26 - -
-[ => - - - 91
-` => - - - -
-a => - 1 10 -
-e => - 5 14 -
-f => 12 6 15 12
-g => - 7 - -
-m => - 13 - -
-n => 10 14 - 10
-o => - 15 - -
-q => - 17 - -
-r => 13 18 - 13
-s => - 19 - -
-t => 9 20 - 9
-u => - 21 - -
-v => 11 22 - 11
-w => - 23 - -
-z => - 26 - -
-{ => - - - 123
-$ => - - - 36
-. => - - - 46
-? => - - - 63
-| => - - - 124
-} => - - - 125
-- => - - - -
-_ => - - - -
-, => - - - -
-é => - - - -
-~ => - - - -
-^ => - - - 94
-] => - - - 93
-* => - - - 42
-+ => - - - 43
-) => - - - 41
-( => - - - 40";
-    agree(rt.alloc(), &MapsCall, rows)
+    let rows = "/ => [None, None, None, Some(47)]
+0 => [None, None, Some(0), None]
+9 => [None, None, Some(9), None]
+: => [None, None, None, None]
+@ => [None, None, None, None]
+A => [None, Some(1), Some(10), None]
+F => [None, Some(6), Some(15), None]
+G => [None, Some(7), None, None]
+Z => [None, Some(26), None, None]
+[ => [None, None, None, Some(91)]
+` => [None, None, None, None]
+a => [None, Some(1), Some(10), None]
+e => [None, Some(5), Some(14), None]
+f => [Some(12), Some(6), Some(15), Some(12)]
+g => [None, Some(7), None, None]
+m => [None, Some(13), None, None]
+n => [Some(10), Some(14), None, Some(10)]
+o => [None, Some(15), None, None]
+q => [None, Some(17), None, None]
+r => [Some(13), Some(18), None, Some(13)]
+s => [None, Some(19), None, None]
+t => [Some(9), Some(20), None, Some(9)]
+u => [None, Some(21), None, None]
+v => [Some(11), Some(22), None, Some(11)]
+w => [None, Some(23), None, None]
+z => [None, Some(26), None, None]
+{ => [None, None, None, Some(123)]
+$ => [None, None, None, Some(36)]
+. => [None, None, None, Some(46)]
+? => [None, None, None, Some(63)]
+| => [None, None, None, Some(124)]
+} => [None, None, None, Some(125)]
+- => [None, None, None, None]
+_ => [None, None, None, None]
+, => [None, None, None, None]
+é => [None, None, None, None]
+~ => [None, None, None, None]
+^ => [None, None, None, Some(94)]
+] => [None, None, None, Some(93)]
+* => [None, None, None, Some(42)]
++ => [None, None, None, Some(43)]
+) => [None, None, None, Some(41)]
+( => [None, None, None, Some(40)]";
+    agree(rt.alloc(), &Maps, rows)
 }
 
-/// Asked is a word. The answer says whether it is a property of characters, and whether it is one of strings.
-struct Lone;
+/// Asked are a name and a value, or a lone word. Of the first the answer says whether they are a property; of a word whether it is a property of characters,
+/// and whether it is one of strings.
+struct Property;
 
-impl Call for Lone {
+impl Call for Property {
     fn answer(&self, alloc: Global, asked: &str) -> Result<String, Fail> {
-        let of_characters = is_valid_lone_unicode_property(asked);
-        let of_strings = is_valid_lone_unicode_property_of_strings(asked);
-        Ok(format!(in alloc; "{of_characters} {of_strings}")?)
+        match asked.split_once('=') {
+            Some((name, value)) => {
+                Ok(format!(in alloc; "{}", is_valid_unicode_property(name, value))?)
+            }
+            None => Ok(format!(in alloc;
+                "{} {}",
+                is_valid_lone_unicode_property(asked),
+                is_valid_lone_unicode_property_of_strings(asked)
+            )?),
+        }
     }
 }
 
@@ -258,17 +215,7 @@ RGI_Emoji => false true
 RGI_emoji => false false
 Lu => false false
  => false false";
-    agree(rt.alloc(), &Lone, rows)
-}
-
-/// Asked are a name and a value.
-struct Valued;
-
-impl Call for Valued {
-    fn answer(&self, alloc: Global, asked: &str) -> Result<String, Fail> {
-        let (name, value) = asked.split_once('=').ok_or("no value")?;
-        Ok(format!(in alloc; "{}", is_valid_unicode_property(name, value))?)
-    }
+    agree(rt.alloc(), &Property, rows)
 }
 
 #[test]
@@ -289,5 +236,5 @@ GC=C => false
 script=Adlm => false
 =C => false
 Any=C => false";
-    agree(rt.alloc(), &Valued, rows)
+    agree(rt.alloc(), &Property, rows)
 }

@@ -6,82 +6,67 @@ use rx_ast::{
     Pattern, Quantifier, Term,
 };
 use rx_base::{ContentEq, GetSpan, List, OutOfMemory, Span, Text};
-use rx_rows::{Call, agree};
 use std::alloc::Global;
-use std::test::Fail;
 
-const DEEP: u32 = 500_000;
-
-/// Asked are the bits of two sets. The answer has their union, their intersection, what the first has alone, what one has alone, and the complement of the
-/// first; the first after the second was inserted, then removed, and after it was toggled; and whether the first contains and intersects the second.
-struct Sets;
-
-impl Call for Sets {
-    fn answer(&self, alloc: Global, asked: &str) -> Result<String, Fail> {
-        let (first, second) = asked.split_once(' ').ok_or("no second set")?;
-        let (a, b) = (set_of(first)?, set_of(second)?);
-        let combined = combined(alloc, a, b)?;
-        let changed = changed(alloc, a, b)?;
-        Ok(format!(in alloc;
-            "{combined}; {changed}; {} {}",
-            a.contains(b),
-            a.intersects(b)
-        )?)
-    }
-}
-
-fn set_of(bits: &str) -> Result<Modifier, Fail> {
-    let bits = u8::from_str_radix(bits, 2).ok().ok_or("no bits")?;
-    Ok(Modifier::from_bits_retain(bits))
-}
-
-fn combined(alloc: Global, a: Modifier, b: Modifier) -> Result<String, Fail> {
-    let (union, intersection) = ((a | b).bits(), (a & b).bits());
-    let (difference, symmetric_difference) = ((a - b).bits(), (a ^ b).bits());
-    Ok(format!(in alloc;
-        "{union} {intersection} {difference} {symmetric_difference} {}",
-        (!a).bits()
-    )?)
-}
-
-fn changed(alloc: Global, a: Modifier, b: Modifier) -> Result<String, Fail> {
-    let mut changed = a;
-    changed.insert(b);
-    let inserted = changed.bits();
-    changed.remove(b);
-    let removed = changed.bits();
-    changed = a;
-    changed.toggle(b);
-    Ok(format!(in alloc; "{inserted} {removed} {}", changed.bits())?)
-}
+/// Two sets by their bits; those of their union, their intersection, what the first has alone, what one has alone, and the complement of the first; those of
+/// the first after the second was inserted, then removed, and after it was toggled; and whether the first contains and intersects the second.
+const SETS: [(u8, u8, [u8; 8], [bool; 2]); 4] = [
+    (0b101, 0b110, [7, 4, 1, 3, 2, 7, 1, 3], [false, true]),
+    (
+        0b10000001,
+        0b10000010,
+        [131, 128, 1, 3, 6, 131, 1, 3],
+        [false, true],
+    ),
+    (0b111, 0b010, [7, 2, 5, 5, 0, 7, 5, 5], [true, true]),
+    (0b000, 0b100, [4, 0, 0, 4, 7, 4, 0, 4], [false, false]),
+];
 
 #[test]
-fn modifiers_are_sets_of_bits(rt: HostRuntime) -> Result<(), Fail> {
-    let rows = "101 110 => 7 4 1 3 2; 7 1 3; false true
-10000001 10000010 => 131 128 1 3 6; 131 1 3; false true
-111 010 => 7 2 5 5 0; 7 5 5; true true
-000 100 => 4 0 0 4 7; 4 0 4; false false";
-    agree(rt.alloc(), &Sets, rows)
+fn modifiers_are_sets_of_bits(rt: HostRuntime) {
+    for (first, second, bits, answers) in SETS {
+        let a = Modifier::from_bits_retain(first);
+        let b = Modifier::from_bits_retain(second);
+        let mut inserted = a;
+        inserted.insert(b);
+        let mut removed = inserted;
+        removed.remove(b);
+        let mut toggled = a;
+        toggled.toggle(b);
+        let found = [
+            (a | b).bits(),
+            (a & b).bits(),
+            (a - b).bits(),
+            (a ^ b).bits(),
+            (!a).bits(),
+            inserted.bits(),
+            removed.bits(),
+            toggled.bits(),
+        ];
+        assert_eq!(rt; (found, [a.contains(b), a.intersects(b)]), (bits, answers));
+    }
 }
 
 #[test]
 fn bits_of_modifiers(rt: HostRuntime) {
     assert_eq!(rt;
-        [
-            Modifier::from_bits(7),
-            Modifier::from_bits(8),
-            Modifier::from_bits(9)
-        ],
-        [Some(Modifier::all()), None, None]
-    );
-    assert_eq!(rt;
-        [
+        (
+            [
+                Modifier::from_bits(7),
+                Modifier::from_bits(8),
+                Modifier::from_bits(9)
+            ],
             Modifier::from_bits_truncate(9),
-            Modifier::I | Modifier::M | Modifier::S
-        ],
-        [Modifier::I, Modifier::all()]
+            Modifier::I | Modifier::M | Modifier::S,
+            Modifier::from_bits_truncate(0b1101).bits()
+        ),
+        (
+            [Some(Modifier::all()), None, None],
+            Modifier::I,
+            Modifier::all(),
+            0b101
+        )
     );
-    assert_eq!(rt; Modifier::from_bits_truncate(0b1101).bits(), 0b101);
     assert_eq!(rt;
         [
             Modifier::from_bits_retain(0b1111).is_all(),
@@ -92,42 +77,64 @@ fn bits_of_modifiers(rt: HostRuntime) {
     );
 }
 
+/// Of a quantified group of a class with a range: the spans of all but the characters, the numbers of the quantifier and whether it is greedy, the name, and
+/// what the class and the range hold.
+fn parts_of(pattern: &Pattern) -> Option<Parts<'_>> {
+    let Some(Term::Quantifier(quantifier)) = only_term(&pattern.body) else {
+        return None;
+    };
+    let Term::CapturingGroup(group) = &quantifier.body else {
+        return None;
+    };
+    let Some(Term::CharacterClass(class)) = only_term(&group.body) else {
+        return None;
+    };
+    let Some(CharacterClassContents::CharacterClassRange(range)) = class.body.get(0) else {
+        return None;
+    };
+    Some(Parts {
+        spans: [
+            pattern.span,
+            quantifier.span,
+            quantifier.body.span(),
+            class.span,
+            range.span,
+        ],
+        repeated: (quantifier.min, quantifier.max, quantifier.greedy),
+        name: group.name.as_ref()?.as_str(),
+        class: (class.negative, class.kind),
+        range: (range.min.value, range.max.value),
+    })
+}
+
+#[derive(Clone, Copy, Debug, PartialEq, Eq)]
+struct Parts<'a> {
+    spans: [Span; 5],
+    repeated: (u64, Option<u64>, bool),
+    name: &'a str,
+    class: (bool, CharacterClassContentsKind),
+    range: (u32, u32),
+}
+
 #[test]
 fn a_clone_has_the_same_spans_and_values(rt: HostRuntime) -> Result<(), OutOfMemory> {
     let pattern = pattern_by_hand(rt.alloc())?;
     let copy = pattern.clone(rt.alloc())?;
     drop(pattern);
-    assert_eq!(rt; copy.span, Span::new(0, 17));
-    let Some(Term::Quantifier(quantifier)) = only_term(&copy.body) else {
-        panic!(rt; "the quantifier is lost");
+    let wanted = Parts {
+        spans: [
+            Span::new(0, 17),
+            Span::new(0, 17),
+            Span::new(0, 11),
+            Span::new(5, 10),
+            Span::new(6, 9),
+        ],
+        repeated: (2, Some(3), false),
+        name: "n",
+        class: (false, CharacterClassContentsKind::Union),
+        range: (97, 99),
     };
-    assert_eq!(rt;
-        [quantifier.span, quantifier.body.span()],
-        [Span::new(0, 17), Span::new(0, 11)]
-    );
-    assert_eq!(rt;
-        (quantifier.min, quantifier.max, quantifier.greedy),
-        (2, Some(3), false)
-    );
-    let Term::CapturingGroup(group) = &quantifier.body else {
-        panic!(rt; "the group is lost");
-    };
-    let Some(name) = &group.name else {
-        panic!(rt; "the name is lost");
-    };
-    assert_eq!(rt; name.as_str(), "n");
-    let Some(Term::CharacterClass(class)) = only_term(&group.body) else {
-        panic!(rt; "the class is lost");
-    };
-    assert_eq!(rt;
-        (class.span, class.negative, class.kind),
-        (Span::new(5, 10), false, CharacterClassContentsKind::Union)
-    );
-    let Some(CharacterClassContents::CharacterClassRange(range)) = class.body.get(0) else {
-        panic!(rt; "the range is lost");
-    };
-    assert_eq!(rt; range.span, Span::new(6, 9));
-    assert_eq!(rt; (range.min.value, range.max.value), (97, 99));
+    assert_eq!(rt; parts_of(&copy), Some(wanted));
     Ok(())
 }
 
@@ -137,13 +144,17 @@ fn content_leaves_out_spans_alone(rt: HostRuntime) -> Result<(), OutOfMemory> {
     let mut copy = pattern.clone(rt.alloc())?;
     copy.span = Span::empty(9);
     copy.body.span = Span::empty(9);
-    assert!(rt; pattern.content_eq(&copy));
-    let dot = disjunction_of(
-        rt.alloc(),
-        pattern.span,
-        Term::Dot(Dot { span: pattern.span }),
-    )?;
-    assert!(rt; !pattern.body.content_eq(&dot));
+    let dot = Term::Dot(Dot { span: pattern.span });
+    let other = disjunction_of(rt.alloc(), pattern.span, dot)?;
+    let shown = format!(in rt.alloc(); "{pattern}")?;
+    assert_eq!(rt;
+        (
+            pattern.content_eq(&copy),
+            pattern.body.content_eq(&other),
+            shown.as_str()
+        ),
+        (true, false, "(?<n>[a-c]){2,3}?")
+    );
     Ok(())
 }
 
@@ -157,15 +168,10 @@ fn content_of_characters_has_their_kind(rt: HostRuntime) {
             character.content_eq(&symbol(5, 97)),
             character.content_eq(&symbol(0, 98)),
             character.content_eq(&escaped),
-        ],
-        [true, false, false]
-    );
-    assert_eq!(rt;
-        [
             Modifier::I.content_eq(&Modifier::from_bits_retain(0b1001)),
             Modifier::I.content_eq(&Modifier::M),
         ],
-        [true, false]
+        [true, false, false, true, false]
     );
 }
 
@@ -182,21 +188,6 @@ fn content_of_names(rt: HostRuntime) -> Result<(), OutOfMemory> {
         ],
         [true, false, false]
     );
-    Ok(())
-}
-
-#[test]
-fn a_pattern_is_shown(rt: HostRuntime) -> Result<(), Fail> {
-    let pattern = pattern_by_hand(rt.alloc())?;
-    let text = format!(in rt.alloc(); "{pattern}")?;
-    assert_eq!(rt; text.as_str(), "(?<n>[a-c]){2,3}?");
-    Ok(())
-}
-
-#[test]
-fn deep_trees_are_dropped(rt: HostRuntime) -> Result<(), OutOfMemory> {
-    drop(nested_groups(rt.alloc(), DEEP)?);
-    drop(nested_classes(rt.alloc(), DEEP)?);
     Ok(())
 }
 
@@ -274,28 +265,4 @@ fn class_of(
         kind: CharacterClassContentsKind::Union,
         body,
     })
-}
-
-fn nested_groups(alloc: Global, depth: u32) -> Result<Term, OutOfMemory> {
-    let span = Span::empty(0);
-    let mut term = Term::Dot(Dot { span });
-    for _ in 0..depth {
-        let group = CapturingGroup {
-            span,
-            name: None,
-            body: disjunction_of(alloc, span, term)?,
-        };
-        term = Term::CapturingGroup(Box::new(alloc, group)?);
-    }
-    Ok(term)
-}
-
-fn nested_classes(alloc: Global, depth: u32) -> Result<CharacterClassContents, OutOfMemory> {
-    let span = Span::empty(0);
-    let mut contents = CharacterClassContents::Character(symbol(0, 97));
-    for _ in 0..depth {
-        let class = class_of(alloc, span, contents)?;
-        contents = CharacterClassContents::NestedCharacterClass(Box::new(alloc, class)?);
-    }
-    Ok(contents)
 }
