@@ -1,5 +1,5 @@
 """What `./regexp` tells people while a program is made for it, on standard error: on a terminal in one line that moves, elsewhere in a line for each step. And how it runs
-the commands that make the program, so that none of them goes on once it ends itself.
+the commands that make the program, so that none of them outlives this process.
 """
 import contextlib
 import os
@@ -109,8 +109,9 @@ def interrupt(number, _frame):
     raise Interrupted(number)
 
 
-def make(work):
-    """Makes a program by `work`, which is given the line; returns the status of this process. A signal ends it, after what it started."""
+def make(work, interrupted="interrupted"):
+    """Makes a program by `work`, which is given the line; returns the status of this process. A signal ends it, after what it started, and then
+    `interrupted` is said."""
     for it in SIGNALS:
         if signal.getsignal(it) != signal.SIG_IGN:
             signal.signal(it, interrupt)
@@ -122,9 +123,9 @@ def make(work):
     except Failed as failed:
         line.say(failed)
         return 1
-    except Interrupted as interrupted:
-        line.say("interrupted; started again, it goes on where it was")
-        number = interrupted.args[0]
+    except Interrupted as signalled:
+        line.say(interrupted)
+        number = signalled.args[0]
         signal.signal(number, signal.SIG_DFL)
         os.kill(os.getpid(), number)
         return 128 + number

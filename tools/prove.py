@@ -157,7 +157,7 @@ class Work:
         count, left = len(self.to_do), told(self.estimate.whole * self.estimate.before)
         self.line.say(f"proving and building the program: {count} of {len(self.needed)} crates, {left}")
         if count > 1:
-            self.line.say("it may be interrupted: started again, it goes on where it was; ./regexp quick .. needs no proofs, and answers after a minute or two")
+            self.line.say("you may interrupt it: a new run continues where this one stopped; ./regexp quick .. needs no proofs, and answers after a minute or two")
 
     def state(self, name, share, ran):
         elapsed = self.elapsed + ran
@@ -223,4 +223,4 @@ def work(line):
 
 
 if __name__ == "__main__":
-    sys.exit(progress.make(work))
+    sys.exit(progress.make(work, "interrupted; a new run continues where this one stopped"))
