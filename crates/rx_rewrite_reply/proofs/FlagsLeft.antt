@@ -1,10 +1,12 @@
 -- The flags that are left: what they hold, what they ask for, and that they are right.
-use Rattle.std.proofs.Common.{◌≡◌, ◌∙◌, refl, ap, ℕ, Bool, true, false, not, ◌&&◌, ◌==◌, List, [], ◌∷◌}
+use Rattle.std.proofs.Common.{◌≡◌, ◌∙◌, refl, ap, ap₂, ℕ, Bool, true, false, not, ◌&&◌, ◌||◌, ◌==◌, List, [], ◌∷◌, arith}
 use Rattle.std.specs.Prelude.{if◌then◌else◌, filter}
 use Rattle.std.proofs.Math.Bool.{and_comm, and-true}
 use Rattle.std.proofs.lemmas.Bool.{and_from, and_parts, eqb-true}
+use Rattle.std.proofs.lemmas.Bool.Decides.{nat_tests}
 use Rattle.std.proofs.lemmas.Map.Views.{any-filter_same}
 use Rattle.rx_base.specs.Ascii as ascii
+use Rattle.rx_base.specs.Characters.{is_one_of}
 use Rattle.rx_base.specs.Flags.{holds, is_flag}
 use Rattle.rx_model.specs.declared.mode.Mode.{Mode}
 use Rattle.rx_model.specs.declared.mode.Mode.TheVariants.{Legacy, Unicode, Sets}
@@ -39,11 +41,19 @@ distinct-filter p (f ∷ fs) h =
     let here = and_parts (is_flag f) (not (holds fs f)) all.0 in
     distinct_more p f fs (p f) here.0 here.1 (distinct-filter p fs all.1)
 
+-- a character is one of some characters where these, as flags, hold it
+holds_one_of : (cs : List ℕ) (c : ℕ) → holds cs c ≡ is_one_of cs c
+holds_one_of [] c = refl
+holds_one_of (d ∷ ds) c = let turn : (d == c) ≡ (c == d) = grind (arith, nat_tests) in ap₂ ◌||◌ turn (holds_one_of ds c)
+
 module _ (what : Rewrites) (letters : List ℕ) where
   -- a flag is left exactly where it stays and is there
   flags_left_hold : (f : ℕ) → holds flags_in_order f ≡ true → holds (flags_left what letters) f ≡ (stays what f && holds letters f)
   flags_left_hold f known =
       holds-filter (λ flag. stays what flag && holds letters flag) flags_in_order f ∙ ap (λ b. (stays what f && holds letters f) && b) known ∙ and-true (stays what f && holds letters f)
+
+  pub each_left : (f : ℕ) → is_flag f ≡ true → holds (flags_left what letters) f ≡ (stays what f && holds letters f)
+  each_left f flag = flags_left_hold f (holds_one_of flags_in_order f ∙ flag)
 
   pub match_flags_left : (mode : Mode) → match_flags mode (flags_left what letters) ≡ flags_rewritten what (match_flags mode letters)
   match_flags_left mode =
