@@ -5,7 +5,7 @@ use Rattle.std.proofs.lemmas.Bool.Decides.{nat_tests}
 use Rattle.rx_paint.specs.declared.token.Token.{Token}
 use Rattle.rx_ast.specs.Forest.{Forest}
 use Rattle.rx_paint.specs.Owners.{owner}
-use Rattle.rx_paint.specs.Runs.{is_same, each_from, run, runs_from, runs, tokens, IsRun, AreRuns, Tile}
+use Rattle.rx_paint.specs.Runs.{is_same, each_from, run, runs_from, runs, tokens, IsLongestRun, AreRuns, Tile}
 use Rattle.rx_paint.proofs.Runs.{same_token_is, same_token, itself}
 
 module _ (owns : ℕ → Token) where
@@ -43,13 +43,13 @@ module _ (owns : ℕ → Token) where
       let k : (at + 1) + n ≡ at + suc n = omega arith in
       subst (λ k. AreRuns owns at k (runs at (each_from owns at (suc n)))) k (from_begun n at (owns at) (at + 1) (omega arith) refl (λ b low lt. let e : b ≡ at = omega arith in ap owns e))
 
-  no_shorter : (x y : Token) (low high : ℕ) → IsRun owns low high x → IsRun owns low high y → x.span.end < y.span.end → ⊥
+  no_shorter : (x y : Token) (low high : ℕ) → IsLongestRun owns low high x → IsLongestRun owns low high y → x.span.end < y.span.end → ⊥
   no_shorter x y low high a b lt =
       let some = a.some in
       let within = b.within in
       a.longest (omega arith) (b.one x.span.end (omega arith) lt)
 
-  same_end : (x y : Token) (low high : ℕ) → IsRun owns low high x → IsRun owns low high y → x.span.end ≡ y.span.end
+  same_end : (x y : Token) (low high : ℕ) → IsLongestRun owns low high x → IsLongestRun owns low high y → x.span.end ≡ y.span.end
   same_end x y low high a b =
       elim (nat_lt x.span.end y.span.end) as (λ t. nat_lt x.span.end y.span.end ≡ t → x.span.end ≡ y.span.end) [
         | true ↦ λ is. absurd (no_shorter x y low high a b (grind (arith, nat_tests)))

@@ -56,7 +56,7 @@ abbrev pub pattern_tokens : Whole → List Token
 pattern_tokens p = tokens (root_token p) (in_pattern part_token p)
 
 -- A token is the longest run from `low` on, of offsets up to `high`, with one owner, and has the owner's kind.
-pub record IsRun (owner : ℕ → Token) (low high : ℕ) (t : Token) : Type 0 where
+pub record IsLongestRun (owner : ℕ → Token) (low high : ℕ) (t : Token) : Type 0 where
   pub start : t.span.start ≡ low
   pub some : low < t.span.end
   pub within : t.span.end ≤ high
@@ -67,7 +67,7 @@ pub record IsRun (owner : ℕ → Token) (low high : ℕ) (t : Token) : Type 0 w
 -- Tokens are the longest runs of one owner, one after another from `low` to `high`.
 abbrev pub AreRuns : (ℕ → Token) → ℕ → ℕ → List Token → Type 0
 AreRuns owner low high [] = low ≡ high
-AreRuns owner low high (t ∷ ts) = IsRun owner low high t × AreRuns owner t.span.end high ts
+AreRuns owner low high (t ∷ ts) = IsLongestRun owner low high t × AreRuns owner t.span.end high ts
 
 -- Tokens tile the offsets from `low` to `high`: none is empty, and each begins where the one before it ends.
 abbrev pub Tile : ℕ → ℕ → List Token → Type 0

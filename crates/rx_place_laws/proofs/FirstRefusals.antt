@@ -17,7 +17,7 @@ use Rattle.rx_model.proofs.Refusals.OneRefusal.{first_is_cause}
 use Rattle.rx_parser.proofs.StandIns.{none_stands_in}
 use Rattle.rx_refusal.specs.declared.field.Field.TheVariants.{Flags, Pattern}
 use Rattle.rx_refusal.specs.Fields.{IsFieldOf, by_name, named_field, spoilt_flags}
-use Rattle.rx_refusal.proofs.Refused.{flags_alone, pattern_alone}
+use Rattle.rx_refusal.proofs.Refused.{flags_alone, named_flags, pattern_alone}
 use Rattle.rx_place_laws.specs.Between.{HasUnitsBefore, IsBetweenCharacters}
 use Rattle.rx_place_laws.specs.Ends.{HoldsInRefusal}
 use Rattle.rx_place_laws.specs.Texts as texts
@@ -57,10 +57,6 @@ of_flag standard form _ _ added d no_flags k = absurd (no_cause (first_offset fo
 of_flag standard form _ us added d (some_flags {text} are) k =
     in_flags (HasUnitsBefore text text added) us (first_offset form) added
     (λ place. counted text added (offset_at (first_offset form) us place + added) (units_offset standard true text form us added place are)) d k
-
-named_flags : (us : List CodePoint) (first added : ℕ) (d : Diagnostic) → IsFlagCause us first added d → named_field d ≡ Some Flags
-named_flags us first added _ (unknown before unit offence none) = refl
-named_flags us first added _ _ = refl
 
 module _ (input : Input) where
   abbrev InFlags : Diagnostic → Type 0

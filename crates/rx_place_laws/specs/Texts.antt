@@ -20,7 +20,7 @@ empty_text Constructor = codes "\"(?:)\""
 
 -- The text in which the places of the pattern of an input lie, the flags being right: its own; or where this has no units, what stands in for it.
 pub data IsTextOf (input : Input) : List ℕ → Type 0 where
-  own : {mode : Mode} → AsksFor input mode → (AreUnits input.standard_strings (is_unicode mode) input.text input.form [] → ⊥) → IsTextOf input input.text
+  own : {mode : Mode} → AsksFor input mode → ¬ AreUnits input.standard_strings (is_unicode mode) input.text input.form [] → IsTextOf input input.text
   stand_in : {mode : Mode} → AsksFor input mode → AreUnits input.standard_strings (is_unicode mode) input.text input.form [] → IsTextOf input (empty_text input.form)
 
 -- A text is a quote, line continuations, if any, and the quote. Only strings as the standard has them give nothing for a line continuation.

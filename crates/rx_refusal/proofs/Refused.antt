@@ -49,9 +49,9 @@ module _ (mode : Mode) (us : List CodePoint) (first added : ℕ) where
   in_text rules _ _ = refl
 
 -- and those of flags in the flags
-in_flags : (us : List CodePoint) (first added : ℕ) (d : Diagnostic) → IsFlagCause us first added d → named_field d ≡ Some Flags
-in_flags us first added _ (unknown before unit offence none) = refl
-in_flags us first added _ _ = refl
+pub named_flags : (us : List CodePoint) (first added : ℕ) (d : Diagnostic) → IsFlagCause us first added d → named_field d ≡ Some Flags
+named_flags us first added _ (unknown before unit offence none) = refl
+named_flags us first added _ _ = refl
 
 -- the units of a flags text
 text_units : (standard : Bool) (form : Form) (text : List ℕ) (us : List CodePoint) → AreFlagUnits standard form (Some text) us → AreUnits standard true text form us
@@ -90,6 +90,6 @@ module _ (input : Input) where
   pub pattern_alone : (d : Diagnostic) → IsFirstRefusal input d → IsFieldOf input d Pattern → (mode : Mode) × AsksFor input mode
   pattern_alone _ (no_flags_text is none) (by_name _ e) = absurd (let no : ⊥ = cc e in no)
   pattern_alone _ (no_flags_text {text} is none) (spoilt_text us unnamed are) = absurd (unread text us is none are)
-  pattern_alone d (of_flags {flags = us} are k) told = absurd (not_pattern d (in_flags us (first_offset input.form) input.flags_offset d k) told)
+  pattern_alone d (of_flags {flags = us} are k) told = absurd (not_pattern d (named_flags us (first_offset input.form) input.flags_offset d k) told)
   pattern_alone _ (no_text {mode} asks none) told = (mode, asks)
   pattern_alone d (of_text {mode} asked g) told = (mode, asked.mode_asked)

@@ -13,7 +13,7 @@ use rx_base::{Sink, Source};
 use std::alloc::Global;
 use std::process::ExitCode;
 
-/// Does all that the program does, and answers the code that the process ends with.
+/// Reads the words of the command line, runs the program with them, and answers the code that the process ends with: the number of the status.
 pub fn run_program<A: Arguments, S: Source, K: Sink>(
     alloc: Global,
     arguments: &A,

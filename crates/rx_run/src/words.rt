@@ -9,8 +9,11 @@ use rx_base::{List, Text};
 use std::alloc::Global;
 use std::env::FillError;
 
-/// The words after the program's name, all of them and in order, or the status to end with: `Usage` where the first word that is no text is no
-/// UTF-8, `OutOfMemory` where memory is wanting before that.
+/// The words after the program's name, all of them and in order.
+///
+/// # Errors
+///
+/// The status to end with: `Usage` only where some word is no UTF-8, or else `OutOfMemory`, which may be at any time.
 pub fn words<A: Arguments>(arguments: &A, alloc: Global) -> Result<List<Text>, Status>
     ensures ok { IfOk result (λ words. IfSome (A.given arguments.now) (λ given. AreWords given words)) }
     ensures usage { result ≡ Err Status.Usage → IfSome (A.given arguments.now) HasNoText }
