@@ -18,7 +18,7 @@ const BUDGET_DIGITS: usize = 10;
 const MOST_DIGITS: usize = 19;
 
 /// What is said of a request that is read.
-#[derive(Debug, Drop)]
+#[derive(Drop)]
 pub enum Answering<'a> {
     /// Its mode and its canonical spelling.
     Canonical,

@@ -20,7 +20,7 @@ const SEED_LIMIT: u64 = 2147483648;
 const COUNT_LIMIT: u64 = 20000;
 
 /// What the words after the program's name ask for.
-#[derive(Debug, Drop)]
+#[derive(Drop)]
 pub enum Command<'a> {
     /// No words, `display`, `support LIST`, `match BUDGET TEXT`, `steps TEXT MOST`, `paint`, `paint color`, `lint`, `rewrite` or `rewrite LIST`, or `strict` or
     /// `standard` and one of these lists: the lines of the input are answered.

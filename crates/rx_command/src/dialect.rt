@@ -12,7 +12,7 @@ use rx_parser::Options;
 
 /// The options that requests are read with.
 // Why: docs/DECISIONS.md, 72.
-#[derive(Clone, Copy, Debug, PartialEq, Eq)]
+#[derive(Clone, Copy)]
 pub enum Dialect {
     /// Two groups may have one name where they never both take part, and buffer boundaries are read; arguments of `RegExp` are read as the Rust crate reads them.
     Default,

@@ -54,7 +54,7 @@ impl Feature {
 }
 
 /// Features that are not supported.
-#[derive(Debug, Default, Drop)]
+#[derive(Default, Drop)]
 pub struct Features {
     pub flags: RegexUnsupportedFlags,
     pub patterns: RegexUnsupportedPatterns,

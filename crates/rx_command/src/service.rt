@@ -7,7 +7,7 @@ use crate::dialect::Dialect;
 use rx_base::Text;
 
 /// How lines are answered: with which options they are read, and what is said of them.
-#[derive(Debug, Drop)]
+#[derive(Drop)]
 pub struct Service<'a> {
     pub dialect: Dialect,
     pub answering: Answering<'a>,

@@ -5,7 +5,7 @@ use std::marker::Model;
 
 /// The text that patterns are matched on.
 // Why: docs/DECISIONS.md, 74.
-#[derive(Debug, Drop)]
+#[derive(Drop)]
 pub struct Subject<'a> {
     text: &'a str,
 }

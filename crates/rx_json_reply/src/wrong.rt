@@ -6,7 +6,7 @@ use rx_base::OutOfMemory;
 use std::alloc::Global;
 
 /// Why a line is no request.
-#[derive(Clone, Copy, Debug)]
+#[derive(Clone, Copy)]
 pub enum Wrong<'a> {
     LongLine,
     NotUtf8,

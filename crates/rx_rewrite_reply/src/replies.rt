@@ -18,7 +18,7 @@ use rx_tools::append_canonical;
 use std::alloc::Global;
 
 /// How a pattern was read, and what is to go from it.
-#[derive(Clone, Copy, Debug)]
+#[derive(Clone, Copy)]
 pub struct Rewriting<'a> {
     /// The flags of its line.
     pub letters: &'a str,

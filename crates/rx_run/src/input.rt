@@ -11,7 +11,7 @@ use std::alloc::Global;
 pub const INPUT_LIMIT: u64 = 67108864;
 
 /// Why no bytes came.
-#[derive(Clone, Copy, Debug, PartialEq, Eq)]
+#[derive(Clone, Copy)]
 pub enum InputFault {
     /// The source had a fault.
     Read,

@@ -29,7 +29,7 @@ use std::alloc::Global;
 const CHUNK: usize = 65536;
 
 /// Why the input was not answered to its end.
-#[derive(Clone, Copy, Debug, PartialEq, Eq)]
+#[derive(Clone, Copy)]
 pub enum Interruption {
     /// There was not enough memory for the buffer.
     OutOfMemory,

@@ -13,7 +13,7 @@ use rx_base::{Failed, OutOfMemory, Sink};
 use std::alloc::Global;
 
 /// Why the replies were not written whole.
-#[derive(Clone, Copy, Debug, PartialEq, Eq)]
+#[derive(Clone, Copy)]
 pub enum ReplyFault {
     /// The sink had a fault.
     Write,
