@@ -4,18 +4,16 @@
 #[cfg(test)]
 mod commands;
 #[cfg(test)]
-mod depth;
-#[cfg(test)]
 mod ends;
 #[cfg(test)]
 mod generating;
 #[cfg(test)]
 mod json;
 #[cfg(test)]
-mod limits;
-#[cfg(test)]
-mod memory;
+mod long;
 #[cfg(test)]
 mod running;
+#[cfg(test)]
+mod runs;
 #[cfg(test)]
 mod words;

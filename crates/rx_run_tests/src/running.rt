@@ -1,10 +1,8 @@
 //! Replies to many lines and to none, and to lines that ask nothing.
-ghost use Rattle.std.specs.Prelude.{◌<◌};
-
-use crate::memory::{bytes_of, run_in_steps};
-use rx_base::{List, MemorySink, MemorySource, OutOfMemory, Source, Text};
+use crate::runs::outcome;
+use rx_base::OutOfMemory;
 use rx_run::over_memory;
-use rx_run::run::{Status, run};
+use rx_run::run::Status;
 use std::alloc::Global;
 use std::test::Fail;
 
@@ -38,8 +36,8 @@ L\tu
 L\tu\t\xff
 L\tu\tno LF";
 
-/// The replies to them.
-const REPLIES: &[u8] = b"ok\tunicode\ta.b|c
+/// What a run on them comes to.
+const OUTCOME: &str = "1 [ok\tunicode\ta.b|c
 ok\tunicode\tAB
 err\tbraced_quantifier_out_of_order\t1..6
 ok\tunicode\ta\\/b
@@ -67,77 +65,47 @@ bad
 bad
 bad
 ok\tunicode\tno LF
-";
-
-/// Whether the lines have their replies in order, from and to n bytes at a time.
-fn are_in_order(alloc: Global, source_step: usize, sink_step: usize) -> Result<bool, OutOfMemory>
-    requires source { 0 < source_step }
-    requires sink { 0 < sink_step }
-{
-    let input = bytes_of(alloc, LINES)?;
-    let (status, sink) = run_in_steps(alloc, input, source_step, sink_step)?;
-    Ok(status == Status::SomeRefused && sink.bytes() == REPLIES)
-}
+]";
 
 #[test]
 fn replies_come_in_order(rt: HostRuntime) -> Result<(), Fail> {
-    assert!(rt; are_in_order(rt.alloc(), 1, 1)?);
-    assert!(rt; are_in_order(rt.alloc(), 3, 2)?);
-    assert!(rt; are_in_order(rt.alloc(), 65536, 65536)?);
-    Ok(())
-}
-
-#[test]
-fn other_lines_are_bad(rt: HostRuntime) -> Result<(), Fail> {
-    for line in [
-        b"X\n".as_slice(),
-        b"Lu\ta\n",
-        b"L\tu\n",
-        b"\tu\ta\n",
-        b"\n",
-        b"L\tu\t\xff\n",
+    for ends in [
+        "1 0 1 0 1100000",
+        "3 0 2 0 1100000",
+        "65536 0 65536 0 1100000",
     ] {
-        let (status, sink) = over_memory::replies(rt.alloc(), line, 99)?;
-        assert_eq!(rt; sink.bytes(), b"bad\n".as_slice());
-        assert_eq!(rt; status, Status::SomeRefused);
+        let outcome = outcome(rt.alloc(), "regexp", LINES, ends)?;
+        assert_eq!(rt; outcome.as_str(), OUTCOME, "with {ends}");
     }
     Ok(())
 }
 
-#[test]
-fn an_empty_text_is_an_empty_group(rt: HostRuntime) -> Result<(), Fail> {
-    let (status, sink) = over_memory::replies(rt.alloc(), b"L\tu\t", 99)?;
-    assert_eq!(rt; sink.bytes(), b"ok\tunicode\t(?:)\n".as_slice());
-    assert_eq!(rt; status, Status::AllOk);
-    Ok(())
+/// Whether the line has these replies in a room of n bytes, and the run this status.
+fn has_replies(
+    alloc: Global,
+    line: &[u8],
+    room: usize,
+    replies: &str,
+    status: Status,
+) -> Result<bool, OutOfMemory> {
+    let (found, sink) = over_memory::replies(alloc, line, room)?;
+    Ok((found, sink.bytes()) == (status, replies.as_bytes()))
 }
 
 #[test]
-fn no_input_has_no_replies(rt: HostRuntime) -> Result<(), Fail> {
-    let (status, sink) = over_memory::replies(rt.alloc(), b"", 9)?;
-    assert_eq!(rt; sink.bytes(), b"".as_slice());
-    assert_eq!(rt; status.number(), 0);
-    let status = over_memory::run_clean(rt.alloc(), &[], b"");
-    assert_eq!(rt; status, Status::AllOk);
-    Ok(())
-}
-
-/// What the program answers to a word, what is left of its input of two bytes, and what it wrote.
-fn run_word(alloc: Global) -> Result<(Status, MemorySource, MemorySink), OutOfMemory> {
-    let mut words = List::new(alloc);
-    words.push(Text::from_str(alloc, "foo")?)?;
-    let input = bytes_of(alloc, b"X\n")?;
-    let mut source = MemorySource::new(input, List::new(alloc), 9);
-    let mut sink = MemorySink::new(alloc, 9, List::new(alloc), 9)?;
-    let status = run(alloc, words.as_slice(), &mut source, &mut sink);
-    Ok((status, source, sink))
-}
-
-#[test]
-fn other_words_read_and_write_nothing(rt: HostRuntime) -> Result<(), Fail> {
-    let (status, mut source, sink) = run_word(rt.alloc())?;
-    assert_eq!(rt; status.number(), 2);
-    assert_eq!(rt; sink.bytes(), b"".as_slice());
-    assert_eq!(rt; source.read(&mut [0u8; 9]), Ok(2));
+fn one_line_or_none_is_answered(rt: HostRuntime) -> Result<(), Fail> {
+    let bad = Status::SomeRefused;
+    let mut as_wanted = true;
+    for line in ["X\n", "Lu\ta\n", "L\tu\n", "\tu\ta\n", "\n"] {
+        as_wanted &= has_replies(rt.alloc(), line.as_bytes(), 99, "bad\n", bad)?;
+    }
+    let empty = "ok\tunicode\t(?:)\n";
+    let others = [
+        has_replies(rt.alloc(), b"L\tu\t\xff\n", 99, "bad\n", bad)?,
+        has_replies(rt.alloc(), b"L\tu\t", 99, empty, Status::AllOk)?,
+        has_replies(rt.alloc(), b"", 9, "", Status::AllOk)?,
+        over_memory::run_clean(rt.alloc(), &[], b"") == Status::AllOk,
+    ];
+    assert_eq!(rt; (as_wanted, others), (true, [true; 4]));
     Ok(())
 }

@@ -1,14 +1,12 @@
-//! The words of the command line, and the program over arguments in memory.
-use crate::memory::bytes_of;
-use rx_base::{List, MemorySink, MemorySource, OutOfMemory, Text};
+//! The words of the command line, and the program over arguments that are no text.
+use crate::runs::{push_argument, run_over, sink_of, source_of};
+use rx_base::{List, OutOfMemory, Text};
 use rx_run::arguments::{Arguments, MemoryArguments};
-use rx_run::program::run_program;
 use rx_run::run::Status;
 use rx_run::standard::StdArguments;
 use rx_run::words::words;
 use std::alloc::Global;
 use std::env::{Env, FillError};
-use std::process::ExitCode;
 use std::test::Fail;
 
 /// Longer than the first buffers that a word is copied to.
@@ -17,51 +15,18 @@ const LONG: [u8; 100000] = [b'w'; 100000];
 fn arguments_of(alloc: Global, arguments: &[&[u8]]) -> Result<MemoryArguments, OutOfMemory> {
     let mut list = List::new(alloc);
     for argument in arguments {
-        list.push(bytes_of(alloc, argument)?)?;
+        push_argument(&mut list, argument)?;
     }
     Ok(MemoryArguments::new(list))
 }
 
-/// Whether these are the words of the arguments.
-fn are_words<A: Arguments>(alloc: Global, arguments: &A, wanted: &[&[u8]]) -> bool {
-    let Ok(taken) = words(arguments, alloc) else {
-        return false;
-    };
-    taken.len() == wanted.len()
-        && taken
-            .as_slice()
-            .iter()
-            .zip(wanted)
-            .all(|(word, bytes)| word.as_str().as_bytes() == *bytes)
-}
-
-#[test]
-fn words_are_taken(rt: HostRuntime) -> Result<(), Fail> {
-    let alloc = rt.alloc();
-    let wanted = [b"foo".as_slice(), &LONG, b"", "é".as_bytes()];
-    let given = [b"\xff".as_slice(), b"foo", &LONG, b"", "é".as_bytes()];
-    assert!(rt; are_words(alloc, &arguments_of(alloc, &given)?, &wanted));
-    assert!(rt; are_words(alloc, &arguments_of(alloc, &[b"name"])?, &[]));
-    assert!(rt; are_words(alloc, &arguments_of(alloc, &[])?, &[]));
-    let refused = words(&arguments_of(alloc, &[b"name", b"foo", b"\xff"])?, alloc);
-    assert!(rt; matches!(refused, Err(Status::Usage)));
-    Ok(())
-}
-
 /// An environment with arguments alone.
 #[derive(Drop)]
-struct ArgumentsAlone<'a>(&'a [&'a [u8]]);
+struct ArgumentsAlone(MemoryArguments);
 
-impl Env for ArgumentsAlone<'_> {
+impl Env for ArgumentsAlone {
     fn arg(&self, i: usize, buf: &mut [u8]) -> Result<usize, FillError> {
-        let Some(argument) = self.0.get(i) else {
-            return Err(FillError::NotPresent);
-        };
-        if argument.len() > buf.len() {
-            return Err(FillError::TooLong);
-        }
-        buf[..argument.len()].copy_from_slice(argument);
-        Ok(argument.len())
+        self.0.argument(i, buf)
     }
 
     fn var(&self, _: &str, _: &mut [u8]) -> Result<usize, FillError> {
@@ -73,69 +38,63 @@ impl Env for ArgumentsAlone<'_> {
     }
 }
 
+/// Whether the arguments have these words.
+fn have_words<A: Arguments>(
+    alloc: Global,
+    arguments: &A,
+    wanted: &[&[u8]],
+) -> Result<bool, Status> {
+    let taken = words(arguments, alloc)?;
+    Ok(are_words(taken.as_slice(), wanted))
+}
+
+fn are_words(words: &[Text], wanted: &[&[u8]]) -> bool {
+    let mut are_alike = words.len() == wanted.len();
+    for (word, bytes) in words.iter().zip(wanted) {
+        are_alike &= word.as_str().as_bytes() == *bytes;
+    }
+    are_alike
+}
+
+/// Whether these arguments have these words, in memory and in an environment.
+fn both_have_words(
+    alloc: Global,
+    given: &[&[u8]],
+    wanted: &[&[u8]],
+) -> Result<[Result<bool, Status>; 2], OutOfMemory> {
+    let arguments = arguments_of(alloc, given)?;
+    let in_memory = have_words(alloc, &arguments, wanted);
+    let environment = StdArguments::new(ArgumentsAlone(arguments));
+    Ok([in_memory, have_words(alloc, &environment, wanted)])
+}
+
 #[test]
-fn words_of_an_environment_are_taken(rt: HostRuntime) -> Result<(), Fail> {
-    let arguments = StdArguments::new(ArgumentsAlone(&[b"\xff", b"foo", &LONG]));
-    assert!(rt; are_words(rt.alloc(), &arguments, &[b"foo", &LONG]));
-    let refused = words(
-        &StdArguments::new(ArgumentsAlone(&[b"name", b"\xff"])),
-        rt.alloc(),
+fn words_are_taken(rt: HostRuntime) -> Result<(), Fail> {
+    let alloc = rt.alloc();
+    let given = [b"\xff".as_slice(), b"foo", &LONG, b"", "é".as_bytes()];
+    let wanted = [b"foo".as_slice(), &LONG, b"", "é".as_bytes()];
+    let taken = [
+        both_have_words(alloc, &given, &wanted)?,
+        both_have_words(alloc, &[b"name"], &[])?,
+        both_have_words(alloc, &[], &[])?,
+    ];
+    let refused = [
+        both_have_words(alloc, &[b"name", b"foo", b"\xff"], &[])?,
+        both_have_words(alloc, &[b"name", b"\xff"], &[])?,
+    ];
+    assert_eq!(rt;
+        (taken, refused),
+        ([[Ok(true); 2]; 3], [[Err(Status::Usage); 2]; 2])
     );
-    assert!(rt; matches!(refused, Err(Status::Usage)));
     Ok(())
 }
 
-/// The code that the program ends with over these arguments and this input, and what it wrote to a room of n bytes.
-fn end_of_program(
-    alloc: Global,
-    arguments: &[&[u8]],
-    input: &[u8],
-    room: usize,
-) -> Result<(ExitCode, MemorySink), OutOfMemory> {
-    let arguments = arguments_of(alloc, arguments)?;
-    let mut source = MemorySource::new(bytes_of(alloc, input)?, List::new(alloc), 9);
-    let mut sink = MemorySink::new(alloc, room, List::new(alloc), 9)?;
-    let code = run_program(alloc, &arguments, &mut source, &mut sink);
-    Ok((code, sink))
-}
-
 #[test]
-fn the_program_ends_with_the_number_of_its_status(rt: HostRuntime) -> Result<(), Fail> {
-    let one_line = b"L\tu\tb\n".as_slice();
-    for (arguments, input, room, number, written) in [
-        (
-            [b"name".as_slice(), b"match", b"9", b"ab"].as_slice(),
-            one_line,
-            99usize,
-            0u8,
-            b"ok\t1..2\t\n".as_slice(),
-        ),
-        (
-            [b"name".as_slice(), b"match", b"1", b"ab"].as_slice(),
-            one_line,
-            99,
-            1,
-            b"spent\n",
-        ),
-        (
-            [b"name".as_slice(), b"match", b"9"].as_slice(),
-            one_line,
-            99,
-            2,
-            b"",
-        ),
-        (
-            [b"name".as_slice(), b"\xff"].as_slice(),
-            one_line,
-            99,
-            2,
-            b"",
-        ),
-        ([b"name".as_slice()].as_slice(), one_line, 5, 4, b"ok\tun"),
-    ] {
-        let (code, sink) = end_of_program(rt.alloc(), arguments, input, room)?;
-        assert_eq!(rt; code, ExitCode::from(number));
-        assert_eq!(rt; sink.bytes(), written);
-    }
+fn an_argument_that_is_no_text_is_refused(rt: HostRuntime) -> Result<(), Fail> {
+    let arguments = arguments_of(rt.alloc(), &[b"name", b"\xff"])?;
+    let mut source = source_of(rt.alloc(), b"L\tu\tb\n", 9, 0)?;
+    let mut sink = sink_of(rt.alloc(), 99, 9, 0)?;
+    let outcome = run_over(rt.alloc(), &arguments, &mut source, &mut sink, 6)?;
+    assert_eq!(rt; outcome.as_str(), "2 unread []");
     Ok(())
 }
