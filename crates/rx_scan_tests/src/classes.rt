@@ -47,7 +47,7 @@ fn counted_class<L: Ledger>(
     parse_character_class(alloc, reader, state, spans, &mut Steps::<L>::new(blank))
 }
 
-#[derive(Clone, Copy)]
+/// Asked is a text.
 struct ClassCall;
 
 impl Call for ClassCall {
@@ -95,22 +95,12 @@ fn classes(rt: HostRuntime) -> Result<(), Fail> {
 [\\d-] => 10..15 false left at 5 escape 11..13 character 13..14
 [\\b\\-] => 10..16 false left at 6 character 11..13 character 13..15
 [--0\\P{L}] => 10..20 false left at 10 range 11..14 property 14..19
-[\\--/] => 10..16 false left at 6 range 11..15";
-    agree(rt.alloc(), &ClassCall, rows)
-}
-
-#[test]
-fn no_classes(rt: HostRuntime) -> Result<(), Fail> {
-    let rows = "a => none, left at 0
+[\\--/] => 10..16 false left at 6 range 11..15
+a => none, left at 0
 ] => none, left at 0
 \\[ => none, left at 0
-^ => none, left at 0";
-    agree(rt.alloc(), &ClassCall, rows)
-}
-
-#[test]
-fn refused_classes(rt: HostRuntime) -> Result<(), Fail> {
-    let rows = "[ => unterminated_pattern 10..11
+^ => none, left at 0
+[ => unterminated_pattern 10..11
 [^ => unterminated_pattern 10..12
 [a- => unterminated_pattern 10..13
 [a-z => unterminated_pattern 10..14

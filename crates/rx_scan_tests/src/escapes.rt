@@ -3,11 +3,11 @@ ghost use Rattle.rx_class.specs.EscapeReading.Answers.{IsAfterBackslash};
 ghost use Rattle.rx_class.specs.Fitting.{AreFitting};
 
 use rx_ast::{Character, CharacterClassEscape, UnicodePropertyEscape};
-use rx_base::{Diagnostic, Fault, PropertyPart, Steps, Unterminated};
+use rx_base::{Diagnostic, Fault, Steps};
 use rx_class::{
     parse_character_class_escape, parse_character_class_escape_unicode, parse_character_escape,
 };
-use rx_rows::{Call, agree, refusal, short};
+use rx_rows::{Call, agree, short};
 use rx_scan::{SpanFactory, State};
 use rx_units::Reader;
 use std::alloc::Global;
@@ -58,65 +58,49 @@ fn counted_character<L: Ledger>(
     parse_character_escape(reader, state, spans, 0, &mut Steps::<L>::new(blank))
 }
 
-#[derive(Clone, Copy)]
 struct CharacterCall;
 
 impl Call for CharacterCall {
     fn answer(&self, alloc: Global, asked: &str) -> Result<String, Fail> {
-        match character(alloc, short(asked)?)? {
-            Ok(Some(it)) => Ok(format!(in alloc;
-                "{:?} {:x} {}..{}",
-                it.kind, it.value, it.span.start, it.span.end
-            )?),
-            Ok(None) => Ok(String::from_str(alloc, "none")?),
-            Err(cause) => refusal(alloc, &cause),
-        }
+        let found = character(alloc, short(asked)?)?;
+        Ok(format!(in alloc; "{found:?}")?)
     }
 }
 
 #[test]
 fn characters(rt: HostRuntime) -> Result<(), Fail> {
-    let rows = "\\f => SingleEscape c 10..12
-\\n => SingleEscape a 10..12
-\\r => SingleEscape d 10..12
-\\t => SingleEscape 9 10..12
-\\v => SingleEscape b 10..12
-\\cA => ControlLetter 1 10..13
-\\cz => ControlLetter 1a 10..13
-\\0 => Null 0 10..12
-\\0a => Null 0 10..12
-\\x41 => HexadecimalEscape 41 10..14
-\\xfF1 => HexadecimalEscape ff 10..14
-\\u00411 => UnicodeEscape 41 10..16
-\\uD83D\\uDE00 => UnicodeEscape 1f600 10..22
-\\uD83D\\u0041 => UnicodeEscape d83d 10..16
-\\u{10FFFF} => UnicodeEscape 10ffff 10..20
-\\/ => Identifier 2f 10..12
-\\$ => Identifier 24 10..12
-\\\\ => Identifier 5c 10..12";
-    agree(rt.alloc(), &CharacterCall, rows)
-}
-
-#[test]
-fn no_characters(rt: HostRuntime) -> Result<(), Fail> {
-    let rows = "\\ => none
-\\a => none
-\\c1 => none
-\\00 => none
-\\1 => none
-\\x4 => none
-\\- => none
-\\é => none";
-    agree(rt.alloc(), &CharacterCall, rows)
-}
-
-#[test]
-fn refused_characters(rt: HostRuntime) -> Result<(), Fail> {
-    let rows = "\\u => invalid_unicode_escape_sequence 11..12
-\\u004 => invalid_unicode_escape_sequence 11..12
-\\u{} => invalid_unicode_escape_sequence 11..12
-\\u{110000} => invalid_unicode_escape_sequence 11..12
-\\u{0100000000} => too_large_number_digits 13..22";
+    let rows =
+        "\\f => Ok(Some(Character { span: Span { start: 10, end: 12 }, kind: SingleEscape, value: 12 }))
+\\n => Ok(Some(Character { span: Span { start: 10, end: 12 }, kind: SingleEscape, value: 10 }))
+\\r => Ok(Some(Character { span: Span { start: 10, end: 12 }, kind: SingleEscape, value: 13 }))
+\\t => Ok(Some(Character { span: Span { start: 10, end: 12 }, kind: SingleEscape, value: 9 }))
+\\v => Ok(Some(Character { span: Span { start: 10, end: 12 }, kind: SingleEscape, value: 11 }))
+\\cA => Ok(Some(Character { span: Span { start: 10, end: 13 }, kind: ControlLetter, value: 1 }))
+\\cz => Ok(Some(Character { span: Span { start: 10, end: 13 }, kind: ControlLetter, value: 26 }))
+\\0 => Ok(Some(Character { span: Span { start: 10, end: 12 }, kind: Null, value: 0 }))
+\\0a => Ok(Some(Character { span: Span { start: 10, end: 12 }, kind: Null, value: 0 }))
+\\x41 => Ok(Some(Character { span: Span { start: 10, end: 14 }, kind: HexadecimalEscape, value: 65 }))
+\\xfF1 => Ok(Some(Character { span: Span { start: 10, end: 14 }, kind: HexadecimalEscape, value: 255 }))
+\\u00411 => Ok(Some(Character { span: Span { start: 10, end: 16 }, kind: UnicodeEscape, value: 65 }))
+\\uD83D\\uDE00 => Ok(Some(Character { span: Span { start: 10, end: 22 }, kind: UnicodeEscape, value: 128512 }))
+\\uD83D\\u0041 => Ok(Some(Character { span: Span { start: 10, end: 16 }, kind: UnicodeEscape, value: 55357 }))
+\\u{10FFFF} => Ok(Some(Character { span: Span { start: 10, end: 20 }, kind: UnicodeEscape, value: 1114111 }))
+\\/ => Ok(Some(Character { span: Span { start: 10, end: 12 }, kind: Identifier, value: 47 }))
+\\$ => Ok(Some(Character { span: Span { start: 10, end: 12 }, kind: Identifier, value: 36 }))
+\\\\ => Ok(Some(Character { span: Span { start: 10, end: 12 }, kind: Identifier, value: 92 }))
+\\ => Ok(None)
+\\a => Ok(None)
+\\c1 => Ok(None)
+\\00 => Ok(None)
+\\1 => Ok(None)
+\\x4 => Ok(None)
+\\- => Ok(None)
+\\é => Ok(None)
+\\u => Err(InvalidUnicodeEscapeSequence { span: Span { start: 11, end: 12 } })
+\\u004 => Err(InvalidUnicodeEscapeSequence { span: Span { start: 11, end: 12 } })
+\\u{} => Err(InvalidUnicodeEscapeSequence { span: Span { start: 11, end: 12 } })
+\\u{110000} => Err(InvalidUnicodeEscapeSequence { span: Span { start: 11, end: 12 } })
+\\u{0100000000} => Err(TooLargeNumberDigits { span: Span { start: 13, end: 22 }, what: Hex })";
     agree(rt.alloc(), &CharacterCall, rows)
 }
 
@@ -142,27 +126,27 @@ fn counted_class_escape<L: Ledger>(
     parse_character_class_escape(reader, spans, 0, &mut Steps::<L>::new(blank))
 }
 
-#[derive(Clone, Copy)]
 struct ClassEscapeCall;
 
 impl Call for ClassEscapeCall {
     fn answer(&self, alloc: Global, asked: &str) -> Result<String, Fail> {
-        match class_escape(alloc, short(asked)?)? {
-            Some(it) => Ok(format!(in alloc; "{:?} {}..{}", it.kind, it.span.start, it.span.end)?),
-            None => Ok(String::from_str(alloc, "none")?),
-        }
+        let found = match class_escape(alloc, short(asked)?)? {
+            Some(it) => Some((it.kind, it.span)),
+            None => None,
+        };
+        Ok(format!(in alloc; "{found:?}")?)
     }
 }
 
 #[test]
 fn class_escapes(rt: HostRuntime) -> Result<(), Fail> {
-    let rows = "\\d => D 10..12
-\\D => NegativeD 10..12
-\\s => S 10..12
-\\S => NegativeS 10..12
-\\w => W 10..12
-\\Wa => NegativeW 10..12
-\\b => none";
+    let rows = "\\d => Some((D, Span { start: 10, end: 12 }))
+\\D => Some((NegativeD, Span { start: 10, end: 12 }))
+\\s => Some((S, Span { start: 10, end: 12 }))
+\\S => Some((NegativeS, Span { start: 10, end: 12 }))
+\\w => Some((W, Span { start: 10, end: 12 }))
+\\Wa => Some((NegativeW, Span { start: 10, end: 12 }))
+\\b => None";
     agree(rt.alloc(), &ClassEscapeCall, rows)
 }
 
@@ -202,8 +186,7 @@ fn counted_property<L: Ledger>(
     )
 }
 
-/// Property escapes with or without `u`.
-#[derive(Clone, Copy)]
+/// Property escapes with or without `u`: whether one is negative, and one of strings, its name, its value and its span.
 struct PropertyCall {
     unicode_mode: bool,
 }
@@ -219,78 +202,37 @@ impl Call for PropertyCall {
         match property(alloc, short(asked)?, self.unicode_mode)? {
             Ok(Some(it)) => show_property(alloc, &it),
             Ok(None) => Ok(String::from_str(alloc, "none")?),
-            Err(Fault::Diagnostic(cause)) => refused(alloc, &cause),
-            Err(fault) => Err(Fail::from(fault)),
+            Err(fault) => Ok(format!(in alloc; "{fault:?}")?),
         }
     }
 }
 
 fn show_property(alloc: Global, it: &UnicodePropertyEscape) -> Result<String, Fail> {
-    let value = it.value.as_ref().map_or("", |value| value.as_str());
-    Ok(format!(in alloc;
-        "{} {} {}={value} {}..{}",
-        it.negative,
-        it.strings,
-        it.name.as_str(),
-        it.span.start,
-        it.span.end
-    )?)
-}
-
-fn refused(alloc: Global, cause: &Diagnostic) -> Result<String, Fail> {
-    let span = cause.first_span();
-    let kind = kind_of(cause);
-    Ok(format!(in alloc; "{kind} {}..{}", span.start, span.end)?)
-}
-
-/// A word for the refusal of a property.
-fn kind_of(cause: &Diagnostic) -> &'static str {
-    match cause {
-        Diagnostic::UnterminatedPattern {
-            what: Unterminated::PropertyEscape,
-            ..
-        } => "unterminated",
-        Diagnostic::InvalidUnicodeProperty {
-            what: PropertyPart::Name,
-            ..
-        } => "name",
-        Diagnostic::InvalidUnicodeProperty {
-            what: PropertyPart::NameOrValue,
-            ..
-        } => "name or value",
-        Diagnostic::InvalidUnicodePropertyOfStrings { .. } => "strings",
-        _ => "other",
-    }
+    let parts = (it.negative, it.strings, &it.name, &it.value, it.span);
+    Ok(format!(in alloc; "{parts:?}")?)
 }
 
 #[test]
 fn properties(rt: HostRuntime) -> Result<(), Fail> {
-    let rows = "\\p{L} => false false General_Category=L 0..5
-\\P{Lu} => true false General_Category=Lu 0..6
-\\p{gc=L}} => false false gc=L 0..8
-\\p{Script=Greek} => false false Script=Greek 0..16
-\\p{Any}a => false false Any= 0..7";
-    agree(rt.alloc(), &WITH_U, rows)
-}
-
-#[test]
-fn no_properties(rt: HostRuntime) -> Result<(), Fail> {
-    agree(rt.alloc(), &WITH_U, "\\ => none\n\\d => none")?;
+    let rows =
+        "\\p{L} => (false, false, Text { inner: \"General_Category\" }, Some(Text { inner: \"L\" }), Span { start: 0, end: 5 })
+\\P{Lu} => (true, false, Text { inner: \"General_Category\" }, Some(Text { inner: \"Lu\" }), Span { start: 0, end: 6 })
+\\p{gc=L}} => (false, false, Text { inner: \"gc\" }, Some(Text { inner: \"L\" }), Span { start: 0, end: 8 })
+\\p{Script=Greek} => (false, false, Text { inner: \"Script\" }, Some(Text { inner: \"Greek\" }), Span { start: 0, end: 16 })
+\\p{Any}a => (false, false, Text { inner: \"Any\" }, None, Span { start: 0, end: 7 })
+\\ => none
+\\d => none
+\\p => Diagnostic(UnterminatedPattern { span: Span { start: 0, end: 2 }, what: PropertyEscape })
+\\pL => Diagnostic(UnterminatedPattern { span: Span { start: 0, end: 2 }, what: PropertyEscape })
+\\p{ => Diagnostic(UnterminatedPattern { span: Span { start: 0, end: 3 }, what: PropertyEscape })
+\\p{} => Diagnostic(UnterminatedPattern { span: Span { start: 0, end: 3 }, what: PropertyEscape })
+\\p{L => Diagnostic(UnterminatedPattern { span: Span { start: 0, end: 4 }, what: PropertyEscape })
+\\p{L=} => Diagnostic(UnterminatedPattern { span: Span { start: 0, end: 4 }, what: PropertyEscape })
+\\p{gc=L, => Diagnostic(UnterminatedPattern { span: Span { start: 0, end: 7 }, what: PropertyEscape })
+\\p{sc=} => Diagnostic(InvalidUnicodeProperty { span: Span { start: 3, end: 5 }, what: NameOrValue })
+\\p{sc=Foo} => Diagnostic(InvalidUnicodeProperty { span: Span { start: 6, end: 9 }, what: Name })
+\\p{Foo} => Diagnostic(InvalidUnicodeProperty { span: Span { start: 3, end: 6 }, what: NameOrValue })
+\\p{RGI_Emoji} => Diagnostic(InvalidUnicodePropertyOfStrings { span: Span { start: 3, end: 12 }, name: Text { inner: \"RGI_Emoji\" } })";
+    agree(rt.alloc(), &WITH_U, rows)?;
     agree(rt.alloc(), &WITHOUT_U, "\\p{L} => none")
-}
-
-#[test]
-fn refused_properties(rt: HostRuntime) -> Result<(), Fail> {
-    let rows = "\\p => unterminated 0..2
-\\pL => unterminated 0..2
-\\p{ => unterminated 0..3
-\\p{} => unterminated 0..3
-\\p{L => unterminated 0..4
-\\p{L=} => unterminated 0..4
-\\p{gc=L, => unterminated 0..7
-\\p{sc=} => name or value 3..5
-\\p{sc=Foo} => name 6..9
-\\p{Foo} => name or value 3..6
-\\p{RGI_Emoji} => strings 3..12";
-    agree(rt.alloc(), &WITH_U, rows)
 }

@@ -1,158 +1,121 @@
-ghost use Rattle.std.specs.Prelude.{◌+◌, ◌<◌, ◌^◌, length};
-
-use rx_base::Diagnostic;
-use rx_rows::{Call, agree, refusal, short};
-use rx_scan::{FlagsParser, UnicodeEscape, capturing_group_name, decode};
+use rx_rows::{Call, agree, short};
+use rx_scan::{FlagsParser, capturing_group_name, decode};
 use rx_units::Reader;
 use std::alloc::Global;
 use std::test::Fail;
 
-fn parse(
-    alloc: Global,
-    text: &str,
+/// Flags that stand at one of the first bytes.
+struct Flags {
     span_offset: u32,
-) -> Result<Result<(bool, bool), Diagnostic>, Fail>
-    requires { span_offset + length text.now < 2 ^ 32 }
-{
-    let reader = Reader::initialize(alloc, text, true, false)?;
-    Ok(FlagsParser::new(reader, span_offset).parse())
 }
 
-/// The flag that is refused, and the name and the span of the refusal.
-fn refused_flag(alloc: Global, cause: &Diagnostic) -> Result<String, Fail> {
-    let shown = refusal(alloc, cause)?;
-    match cause {
-        Diagnostic::UnknownFlag { flag, .. } | Diagnostic::DuplicatedFlags { flag, .. } => {
-            Ok(format!(in alloc; "{shown} {flag:x}")?)
-        }
-        _ => Ok(shown),
-    }
-}
+const FLAGS: Flags = Flags { span_offset: 0 };
 
-/// Flags that stand at byte 0, or at byte 10.
-#[derive(Clone, Copy)]
-struct FlagsCall {
-    at_ten: bool,
-}
+const FLAGS_AT_TEN: Flags = Flags { span_offset: 10 };
 
-impl Call for FlagsCall {
+impl Call for Flags {
     fn answer(&self, alloc: Global, asked: &str) -> Result<String, Fail> {
-        let span_offset = if self.at_ten { 10 } else { 0 };
-        match parse(alloc, short(asked)?, span_offset)? {
-            Ok((unicode, sets)) => Ok(format!(in alloc; "{unicode} {sets}")?),
-            Err(cause) => refused_flag(alloc, &cause),
-        }
+        let reader = Reader::initialize(alloc, short(asked)?, true, false)?;
+        let modes = FlagsParser::new(reader, self.span_offset.min(1000)).parse();
+        Ok(format!(in alloc; "{modes:?}")?)
     }
 }
 
+/// Whether a unicode mode and sets mode are asked for, or the refusal.
 #[test]
-fn flags_that_are_read(rt: HostRuntime) -> Result<(), Fail> {
-    let rows = " => false false
-gimsyd => false false
-u => true false
-ui => true false
-v => true true";
-    agree(rt.alloc(), &FlagsCall { at_ten: true }, rows)
-}
-
-#[test]
-fn flags_that_are_refused(rt: HostRuntime) -> Result<(), Fail> {
-    let rows = "gg => duplicated_flags 1..2 67
-ux => unknown_flag 1..2 78
-uv => invalid_unicode_flags 1..2
-vu => invalid_unicode_flags 1..2
-uxv => unknown_flag 1..2 78
-uvv => invalid_unicode_flags 1..2
-ié => unknown_flag 1..3 e9";
-    agree(rt.alloc(), &FlagsCall { at_ten: false }, rows)?;
-    let rows = "gg => duplicated_flags 11..12 67";
-    agree(rt.alloc(), &FlagsCall { at_ten: true }, rows)
+fn what_flags_ask_for(rt: HostRuntime) -> Result<(), Fail> {
+    let rows = " => Ok((false, false))
+gimsyd => Ok((false, false))
+u => Ok((true, false))
+ui => Ok((true, false))
+v => Ok((true, true))
+gg => Err(DuplicatedFlags { span: Span { start: 11, end: 12 }, flag: 103 })";
+    agree(rt.alloc(), &FLAGS_AT_TEN, rows)?;
+    let rows = "gg => Err(DuplicatedFlags { span: Span { start: 1, end: 2 }, flag: 103 })
+ux => Err(UnknownFlag { span: Span { start: 1, end: 2 }, flag: 120 })
+uv => Err(InvalidUnicodeFlags { span: Span { start: 1, end: 2 } })
+vu => Err(InvalidUnicodeFlags { span: Span { start: 1, end: 2 } })
+uxv => Err(UnknownFlag { span: Span { start: 1, end: 2 }, flag: 120 })
+uvv => Err(InvalidUnicodeFlags { span: Span { start: 1, end: 2 } })
+ié => Err(UnknownFlag { span: Span { start: 1, end: 3 }, flag: 233 })";
+    agree(rt.alloc(), &FLAGS, rows)
 }
 
 /// What a backslash stands before, read with or without `u`.
-#[derive(Clone, Copy)]
-struct DecodeCall {
+struct Decoding {
     unicode_mode: bool,
 }
 
-impl Call for DecodeCall {
-    fn answer(&self, alloc: Global, asked: &str) -> Result<String, Fail> {
-        let reader = Reader::initialize(alloc, short(asked)?, self.unicode_mode, false)?;
-        match decode(reader.remaining_code_points(), self.unicode_mode) {
-            UnicodeEscape::Value { code_point, length } => {
-                Ok(format!(in alloc; "{code_point:x} in {length}")?)
-            }
-            UnicodeEscape::Invalid => Ok(String::from_str(alloc, "invalid")?),
-            UnicodeEscape::Overflow { digits } => Ok(format!(in alloc; "overflow after {digits}")?),
-        }
-    }
-}
+const WITH_U: Decoding = Decoding { unicode_mode: true };
 
-const WITH_U: DecodeCall = DecodeCall { unicode_mode: true };
-
-const WITHOUT_U: DecodeCall = DecodeCall {
+const WITHOUT_U: Decoding = Decoding {
     unicode_mode: false,
 };
 
-#[test]
-fn escapes_of_code_points(rt: HostRuntime) -> Result<(), Fail> {
-    let rows = "u0041 => 41 in 5
-uD83D\\uDE00 => d83d in 5";
-    agree(rt.alloc(), &WITHOUT_U, rows)?;
-    let rows = "u00e9z => e9 in 5
-uD83D\\uDE00 => 1f600 in 11
-uD83D\\u{DE00} => d83d in 5
-uD83D\\u0041 => d83d in 5
-u{10FFFF} => 10ffff in 9";
-    agree(rt.alloc(), &WITH_U, rows)
+impl Call for Decoding {
+    fn answer(&self, alloc: Global, asked: &str) -> Result<String, Fail> {
+        let reader = Reader::initialize(alloc, short(asked)?, self.unicode_mode, false)?;
+        let escape = decode(reader.remaining_code_points(), self.unicode_mode);
+        Ok(format!(in alloc; "{escape:?}")?)
+    }
 }
 
+/// A code point and how many units spell it, or after how many digits they pass 32 bits.
 #[test]
-fn no_escapes(rt: HostRuntime) -> Result<(), Fail> {
-    let rows = "u{110000} => invalid
-u{} => invalid
-u{41 => invalid
-u004 => invalid
-x41 => invalid
- => invalid";
+fn unicode_escapes(rt: HostRuntime) -> Result<(), Fail> {
+    let rows = "u00e9z => Value { code_point: 233, length: 5 }
+uD83D\\uDE00 => Value { code_point: 128512, length: 11 }
+uD83D\\u{DE00} => Value { code_point: 55357, length: 5 }
+uD83D\\u0041 => Value { code_point: 55357, length: 5 }
+u{10FFFF} => Value { code_point: 1114111, length: 9 }
+u{110000} => Invalid
+u{} => Invalid
+u{41 => Invalid
+u004 => Invalid
+x41 => Invalid
+ => Invalid
+u{100000000} => Overflow { digits: 8 }
+u{FFFFFFFFF} => Overflow { digits: 8 }
+u{0000100000000} => Overflow { digits: 12 }";
     agree(rt.alloc(), &WITH_U, rows)?;
-    agree(rt.alloc(), &WITHOUT_U, "u{41} => invalid")
-}
-
-#[test]
-fn escapes_past_32_bits(rt: HostRuntime) -> Result<(), Fail> {
-    let rows = "u{100000000} => overflow after 8
-u{FFFFFFFFF} => overflow after 8
-u{0000100000000} => overflow after 12";
-    agree(rt.alloc(), &WITH_U, rows)
+    let rows = "u0041 => Value { code_point: 65, length: 5 }
+uD83D\\uDE00 => Value { code_point: 55357, length: 5 }
+u{41} => Invalid";
+    agree(rt.alloc(), &WITHOUT_U, rows)
 }
 
 /// The name that a text is, which is read by code points or by code units.
-#[derive(Clone, Copy)]
-struct GroupNameCall {
+struct GroupName {
     by_code_points: bool,
     unicode_mode: bool,
 }
 
-impl Call for GroupNameCall {
-    fn answer(&self, alloc: Global, asked: &str) -> Result<String, Fail> {
-        let reader = Reader::initialize(alloc, short(asked)?, self.by_code_points, false)?;
-        match capturing_group_name(alloc, reader.remaining_code_points(), self.unicode_mode)? {
-            Some(name) => Ok(format!(in alloc; "name {}", name.as_str())?),
-            None => Ok(String::from_str(alloc, "none")?),
-        }
-    }
-}
-
-const LEGACY_NAME: GroupNameCall = GroupNameCall {
+const LEGACY_NAME: GroupName = GroupName {
     by_code_points: false,
     unicode_mode: false,
 };
 
-const UNICODE_NAME: GroupNameCall = GroupNameCall {
+const UNICODE_NAME: GroupName = GroupName {
     by_code_points: true,
     unicode_mode: true,
 };
+
+const NAME_BY_CODE_UNITS: GroupName = GroupName {
+    by_code_points: false,
+    unicode_mode: true,
+};
+
+impl Call for GroupName {
+    fn answer(&self, alloc: Global, asked: &str) -> Result<String, Fail> {
+        let reader = Reader::initialize(alloc, short(asked)?, self.by_code_points, false)?;
+        let name = capturing_group_name(alloc, reader.remaining_code_points(), self.unicode_mode)?;
+        let (found, name) = match &name {
+            Some(name) => ("name ", name.as_str()),
+            None => ("none", ""),
+        };
+        Ok(format!(in alloc; "{found}{name}")?)
+    }
+}
 
 #[test]
 fn names_of_groups(rt: HostRuntime) -> Result<(), Fail> {
@@ -170,14 +133,8 @@ a\\u0031 => name a1
 \u{1D49C} => name \u{1D49C}
 a\u{1D49C}b => name a\u{1D49C}b
 \u{3C0} => name \u{3C0}
-a\u{200D}b => name a\u{200D}b";
-    agree(rt.alloc(), &LEGACY_NAME, rows)?;
-    agree(rt.alloc(), &UNICODE_NAME, rows)
-}
-
-#[test]
-fn no_names_of_groups(rt: HostRuntime) -> Result<(), Fail> {
-    let rows = " => none
+a\u{200D}b => name a\u{200D}b
+ => none
 1a => none
 a- => none
 - => none
@@ -198,17 +155,6 @@ a\\ => none
 \\uD835\\u{DC9C} => none
 \\u{D835}\\u{DC9C} => none";
     agree(rt.alloc(), &LEGACY_NAME, rows)?;
-    agree(rt.alloc(), &UNICODE_NAME, rows)
-}
-
-#[test]
-fn surrogates_in_names(rt: HostRuntime) -> Result<(), Fail> {
-    let found = "\u{1D49C} => name \u{1D49C}";
-    agree(rt.alloc(), &LEGACY_NAME, found)?;
-    agree(rt.alloc(), &UNICODE_NAME, found)?;
-    let by_code_units = GroupNameCall {
-        by_code_points: false,
-        unicode_mode: true,
-    };
-    agree(rt.alloc(), &by_code_units, "\u{1D49C} => none")
+    agree(rt.alloc(), &UNICODE_NAME, rows)?;
+    agree(rt.alloc(), &NAME_BY_CODE_UNITS, "\u{1D49C} => none")
 }
