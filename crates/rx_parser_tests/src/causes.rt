@@ -1,52 +1,53 @@
 //! What patterns are refused for, with all that the refusals say beside their spans.
-use crate::answers::LITERAL;
+use crate::reading::LITERAL;
 use rx_rows::agree;
 use std::test::Fail;
 
-const CAUSES: &str = r"gg a => duplicated_flags 1..2 103
-ux a => unknown_flag 1..2 120
-u (?<a>x)(?<\u0061>y) => duplicated_capturing_group_names 3..4 10..16
-u (?:(?<a>x)|b)(?:c|(?<a>y)) => duplicated_capturing_group_names 6..7 21..22
-u (?<a>x|(?<a>y)) => duplicated_capturing_group_names 3..4 10..11
-u (?=a => unterminated_pattern 0..4 LookAround
-u (\a) => unterminated_pattern 0..2 CapturingGroup
-u (?:a => unterminated_pattern 0..4 IgnoreGroup
-u (?<>a) => unterminated_pattern 2..3 GroupName
-u (?<😀>x) => unterminated_pattern 2..3 GroupName
-u \p{L=} => unterminated_pattern 0..4 PropertyEscape
-u \p => unterminated_pattern 0..2 PropertyEscape
-u [a => unterminated_pattern 0..2 CharacterClass
-v [a => unterminated_pattern 0..2 CharacterClass
-v [a-z&&b] => unterminated_pattern 0..4 CharacterClass
-v [[a => unterminated_pattern 1..3 NestedClass
-v [\q{a => unterminated_pattern 1..5 ClassStringDisjunction
-u (?i:a)\1 => invalid_indexed_reference 6..8 0
-u (a)\12 => invalid_indexed_reference 3..6 1
-u \k<a>(?<b>) => invalid_named_reference 0..5 b
-u (?:(?<b>)|(?<a>)|(?<b>))(?<c>)\k<d> => invalid_named_reference 30..35 b a c
-u \k<a> => invalid_named_reference 0..5
-v \P{RGI_Emoji} => invalid_unicode_property_name_negative_strings 0..13 RGI_Emoji
-u \p{RGI_Emoji} => invalid_unicode_property_of_strings 3..12 RGI_Emoji
-u [\P{Basic_Emoji}] => invalid_unicode_property_of_strings 4..15 Basic_Emoji
-u \p{sc=Foo} => invalid_unicode_property 6..9 Name
-u \p{sc=} => invalid_unicode_property 3..5 NameOrValue
-u [z-a] => character_class_range_out_of_order 2..4 ClassAtom
-v [z-a] => character_class_range_out_of_order 1..4 ClassSet
-v [a&&] => class_set_expression_invalid_character 4..4 Intersection
-v [a--] => class_set_expression_invalid_character 4..4 Subtraction
-v [a--bc] => class_set_expression_invalid_character 5..5 Subtraction
-u a{99999999999999999999 => too_large_number_digits 2..21 Decimal
-u \u{100000000} => too_large_number_digits 3..11 Hex";
+const CAUSES: &str =
+    r#"gg a => Diagnostic(DuplicatedFlags { span: Span { start: 1, end: 2 }, flag: 103 })
+ux a => Diagnostic(UnknownFlag { span: Span { start: 1, end: 2 }, flag: 120 })
+u (?<a>x)(?<\u0061>y) => Diagnostic(DuplicatedCapturingGroupNames { first: Span { start: 3, end: 4 }, second: Span { start: 10, end: 16 } })
+u (?:(?<a>x)|b)(?:c|(?<a>y)) => Diagnostic(DuplicatedCapturingGroupNames { first: Span { start: 6, end: 7 }, second: Span { start: 21, end: 22 } })
+u (?<a>x|(?<a>y)) => Diagnostic(DuplicatedCapturingGroupNames { first: Span { start: 3, end: 4 }, second: Span { start: 10, end: 11 } })
+u (?=a => Diagnostic(UnterminatedPattern { span: Span { start: 0, end: 4 }, what: LookAround })
+u (\a) => Diagnostic(UnterminatedPattern { span: Span { start: 0, end: 2 }, what: CapturingGroup })
+u (?:a => Diagnostic(UnterminatedPattern { span: Span { start: 0, end: 4 }, what: IgnoreGroup })
+u (?<>a) => Diagnostic(UnterminatedPattern { span: Span { start: 2, end: 3 }, what: GroupName })
+u (?<😀>x) => Diagnostic(UnterminatedPattern { span: Span { start: 2, end: 3 }, what: GroupName })
+u \p{L=} => Diagnostic(UnterminatedPattern { span: Span { start: 0, end: 4 }, what: PropertyEscape })
+u \p => Diagnostic(UnterminatedPattern { span: Span { start: 0, end: 2 }, what: PropertyEscape })
+u [a => Diagnostic(UnterminatedPattern { span: Span { start: 0, end: 2 }, what: CharacterClass })
+v [a => Diagnostic(UnterminatedPattern { span: Span { start: 0, end: 2 }, what: CharacterClass })
+v [a-z&&b] => Diagnostic(UnterminatedPattern { span: Span { start: 0, end: 4 }, what: CharacterClass })
+v [[a => Diagnostic(UnterminatedPattern { span: Span { start: 1, end: 3 }, what: NestedClass })
+v [\q{a => Diagnostic(UnterminatedPattern { span: Span { start: 1, end: 5 }, what: ClassStringDisjunction })
+u (?i:a)\1 => Diagnostic(InvalidIndexedReference { span: Span { start: 6, end: 8 }, max: 0 })
+u (a)\12 => Diagnostic(InvalidIndexedReference { span: Span { start: 3, end: 6 }, max: 1 })
+u \k<a>(?<b>) => Diagnostic(InvalidNamedReference { span: Span { start: 0, end: 5 }, names: List { items: [Text { inner: "b" }] } })
+u (?:(?<b>)|(?<a>)|(?<b>))(?<c>)\k<d> => Diagnostic(InvalidNamedReference { span: Span { start: 30, end: 35 }, names: List { items: [Text { inner: "b" }, Text { inner: "a" }, Text { inner: "c" }] } })
+u \k<a> => Diagnostic(InvalidNamedReference { span: Span { start: 0, end: 5 }, names: List { items: [] } })
+v \P{RGI_Emoji} => Diagnostic(InvalidUnicodePropertyNameNegativeStrings { span: Span { start: 0, end: 13 }, name: Text { inner: "RGI_Emoji" } })
+u \p{RGI_Emoji} => Diagnostic(InvalidUnicodePropertyOfStrings { span: Span { start: 3, end: 12 }, name: Text { inner: "RGI_Emoji" } })
+u [\P{Basic_Emoji}] => Diagnostic(InvalidUnicodePropertyOfStrings { span: Span { start: 4, end: 15 }, name: Text { inner: "Basic_Emoji" } })
+u \p{sc=Foo} => Diagnostic(InvalidUnicodeProperty { span: Span { start: 6, end: 9 }, what: Name })
+u \p{sc=} => Diagnostic(InvalidUnicodeProperty { span: Span { start: 3, end: 5 }, what: NameOrValue })
+u [z-a] => Diagnostic(CharacterClassRangeOutOfOrder { span: Span { start: 2, end: 4 }, what: ClassAtom })
+v [z-a] => Diagnostic(CharacterClassRangeOutOfOrder { span: Span { start: 1, end: 4 }, what: ClassSet })
+v [a&&] => Diagnostic(ClassSetExpressionInvalidCharacter { span: Span { start: 4, end: 4 }, what: Intersection })
+v [a--] => Diagnostic(ClassSetExpressionInvalidCharacter { span: Span { start: 4, end: 4 }, what: Subtraction })
+v [a--bc] => Diagnostic(ClassSetExpressionInvalidCharacter { span: Span { start: 5, end: 5 }, what: Subtraction })
+u a{99999999999999999999 => Diagnostic(TooLargeNumberDigits { span: Span { start: 2, end: 21 }, what: Decimal })
+u \u{100000000} => Diagnostic(TooLargeNumberDigits { span: Span { start: 3, end: 11 }, what: Hex })"#;
 
-const SETS: &str = r"v [a--[bc]] => Sets 0..9, 1 to 0..9, 9 bytes: itself
-v [\q{a|bc}] => Sets 0..10, 1 to 0..10, 10 bytes: itself
-v [a&&b] => Sets 0..6, 1 to 0..6, 6 bytes: itself
-v [\q{}] => Sets 0..6, 1 to 0..6, 6 bytes: itself
-v [a!b] => Sets 0..5, 1 to 0..5, 6 bytes: [a\!b]
-v [a&&&b] => class_intersection_unexpected_ampersand 4..5
-v [^\q{ab}] => invalid_character_class 0..9
-v [[^\q{ab}]] => character_class_contents_invalid_operands 1..10
-v [&&a] => empty_class_set_expression 1..1";
+const SETS: &str = r#"v [a--[bc]] => Sets itself 0..9 1 | 0..9 0..9 other;
+v [\q{a|bc}] => Sets itself 0..10 1 | 0..10 0..10 other;
+v [a&&b] => Sets itself 0..6 1 | 0..6 0..6 other;
+v [\q{}] => Sets itself 0..6 1 | 0..6 0..6 other;
+v [a!b] => Sets [a\!b] 0..5 1 | 0..5 0..5 other;
+v [a&&&b] => Diagnostic(ClassIntersectionUnexpectedAmpersand { span: Span { start: 4, end: 5 } })
+v [^\q{ab}] => Diagnostic(InvalidCharacterClass { span: Span { start: 0, end: 9 } })
+v [[^\q{ab}]] => Diagnostic(CharacterClassContentsInvalidOperands { span: Span { start: 1, end: 10 } })
+v [&&a] => Diagnostic(EmptyClassSetExpression { span: Span { start: 1, end: 1 } })"#;
 
 #[test]
 fn refusals_say_what_is_wrong(rt: HostRuntime) -> Result<(), Fail> {

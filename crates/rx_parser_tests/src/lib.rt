@@ -2,8 +2,6 @@
 #![tactic(auto)]
 
 #[cfg(test)]
-mod answers;
-#[cfg(test)]
 mod builds;
 #[cfg(test)]
 mod causes;
@@ -21,3 +19,5 @@ mod shown;
 mod steps;
 #[cfg(test)]
 mod trees;
+#[cfg(test)]
+mod written;

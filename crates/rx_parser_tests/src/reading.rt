@@ -1,123 +1,183 @@
-ghost use Rattle.std.specs.Prelude.{◌≡◌, ◌≤◌, IfSome, length};
+//! What `canonical` answers.
+ghost use Rattle.std.specs.Prelude.{◌+◌, ◌<◌, ◌≤◌, ◌^◌, max, length};
+ghost use Rattle.rx_parser.specs.Inputs.{flags_length, stand_in_length};
 
+use crate::shown::write_pattern;
+use crate::written::{Written, flags_and_pattern};
 use rx_base::Fault;
-use rx_rows::{Call, agree, short};
+use rx_rows::{Call, agree};
 use rx_tools::{Canonical, Form, Options, canonical};
 use std::alloc::Global;
+use std::fmt;
 use std::test::Fail;
 
-/// Asked are the flags, `-` where there are none, a blank and the pattern.
-#[derive(Clone, Copy)]
-struct CanonicalCall {
+/// Where the flags and the pattern stand: at these bytes, or as far on as they can, if that is less far.
+pub struct Reading {
     form: Form,
-    at_seven: bool,
+    pattern_span_offset: u32,
+    flags_span_offset: u32,
 }
 
+pub const LITERAL: Reading = Reading {
+    form: Form::Literal,
+    pattern_span_offset: 0,
+    flags_span_offset: 0,
+};
+
+pub const LITERAL_AT_SEVEN: Reading = Reading {
+    form: Form::Literal,
+    pattern_span_offset: 7,
+    flags_span_offset: 0,
+};
+
+pub const LITERAL_AT_TEN: Reading = Reading {
+    form: Form::Literal,
+    pattern_span_offset: 10,
+    flags_span_offset: 0,
+};
+
 /// A literal whose pattern stands at byte 0, and its flags at byte 7.
-const LITERAL: CanonicalCall = CanonicalCall {
+const FLAGS_AT_SEVEN: Reading = Reading {
     form: Form::Literal,
-    at_seven: true,
+    pattern_span_offset: 0,
+    flags_span_offset: 7,
 };
 
-const AT_ZERO: CanonicalCall = CanonicalCall {
+pub const LAST_LITERAL: Reading = Reading {
     form: Form::Literal,
-    at_seven: false,
+    pattern_span_offset: u32::MAX,
+    flags_span_offset: u32::MAX,
 };
 
-const CONSTRUCTOR: CanonicalCall = CanonicalCall {
+pub const ARGUMENT: Reading = Reading {
     form: Form::Constructor,
-    at_seven: false,
+    pattern_span_offset: 0,
+    flags_span_offset: 0,
 };
 
-const CONSTRUCTOR_AT_SEVEN: CanonicalCall = CanonicalCall {
+const ARGUMENT_FLAGS_AT_SEVEN: Reading = Reading {
     form: Form::Constructor,
-    at_seven: true,
+    pattern_span_offset: 0,
+    flags_span_offset: 7,
 };
 
-impl Call for CanonicalCall {
-    fn answer(&self, alloc: Global, asked: &str) -> Result<String, Fail> {
-        let (flags, pattern) = asked.split_once(' ').ok_or("no blank")?;
-        let flags = given(short(flags)?);
-        let options = Options {
-            pattern_span_offset: 0,
-            flags_span_offset: if self.at_seven { 7 } else { 0 },
-            ..Options::default()
+pub const LAST_ARGUMENT: Reading = Reading {
+    form: Form::Constructor,
+    pattern_span_offset: u32::MAX,
+    flags_span_offset: u32::MAX,
+};
+
+impl Reading {
+    fn options(&self, flags: Option<&str>, pattern: &str) -> Options
+        requires flags { flags_length flags ≤ 100000 }
+        requires pattern { length pattern.now ≤ 100000 }
+        ensures pattern { result.pattern_span_offset + max (length pattern.now) (stand_in_length self.now.form) < 2 ^ 32 }
+        ensures flags { result.flags_span_offset + flags_length flags.entry < 2 ^ 32 }
+    {
+        let stand_in = match self.form {
+            Form::Literal => 4,
+            Form::Constructor => 6,
         };
-        show_answer(
-            alloc,
-            canonical(alloc, self.form, short(pattern)?, flags, options),
-        )
+        let last = u32::MAX - pattern.len().max(stand_in) as u32;
+        let last_of_flags = match flags {
+            Some(flags) => u32::MAX - flags.len() as u32,
+            None => u32::MAX,
+        };
+        Options {
+            pattern_span_offset: self.pattern_span_offset.min(last),
+            flags_span_offset: self.flags_span_offset.min(last_of_flags),
+            ..Options::default()
+        }
     }
 }
 
-/// The flags text, which is absent where `-` stands.
-pub fn given(flags: &str) -> Option<&str>
-    ensures { IfSome result (λ it. length it.now ≤ length flags.now) }
-{
-    if flags == "-" { None } else { Some(flags) }
+impl Call for Reading {
+    fn answer(&self, alloc: Global, asked: &str) -> Result<String, Fail> {
+        let text = format!(in alloc; "{}", Written(asked))?;
+        let (flags, pattern) = flags_and_pattern(&text)?;
+        let options = self.options(flags, pattern);
+        let answer = canonical(alloc, self.form, pattern, flags, options);
+        let spelled = Spelled {
+            answer: &answer,
+            pattern,
+        };
+        Ok(format!(in alloc; "{spelled}")?)
+    }
 }
 
-/// The mode, the spelling and the span of what is read; or the refusal with its spans.
-fn show_answer(alloc: Global, answer: Result<Canonical, Fault>) -> Result<String, Fail> {
-    match answer {
-        Ok(it) => Ok(format!(in alloc;
-            "{:?} {} {}..{}",
-            it.mode,
-            it.text.as_str(),
-            it.pattern.span.start,
-            it.pattern.span.end
-        )?),
-        Err(Fault::Diagnostic(cause)) => Ok(format!(in alloc;
-            "{} {:?} {:?}",
-            cause.name(),
-            cause.first_span(),
-            cause.second_span()
-        )?),
-        Err(Fault::OutOfMemory) => Err(Fail::new("out of memory")),
+/// What is answered to a pattern: the mode, the spelling where it is not the pattern itself, and the tree; or the refusal.
+#[derive(Clone, Copy)]
+struct Spelled<'a> {
+    answer: &'a Result<Canonical, Fault>,
+    pattern: &'a str,
+}
+
+impl fmt::Display for Spelled<'_> {
+    fn fmt<W: fmt::Write>(&self, f: &mut fmt::Formatter<W>) -> fmt::Result {
+        match self.answer {
+            Ok(it) => {
+                let text = it.text.as_str();
+                let text = if text == self.pattern { "itself" } else { text };
+                write!(f, "{:?} {text} ", it.mode)?;
+                write_pattern(f, &it.pattern)
+            }
+            Err(fault) => write!(f, "{fault:?}"),
+        }
     }
 }
 
 #[test]
 fn arguments(rt: HostRuntime) -> Result<(), Fail> {
-    let rows = r#"- "" => Legacy (?:) 1..5
-- '' => Legacy (?:) 1..5
-"" `` => Legacy (?:) 1..5
-'v' "" => Sets (?:) 1..5
-- "\n" => Legacy \n 1..3
-- "\012" => Legacy \n 1..5
-"gi" "\\d+" => Legacy \d+ 1..5
-"u" "\uD83D\uDE00" => Unicode \u{D83D}\u{DE00} 1..13
-"u" 'a\uDE00' => Unicode a\u{DE00} 1..8
-`v` '[\\p{L}&&a]' => Sets [\p{L}&&a] 1..12
-- "a => invalid_input Span { start: 0, end: 2 } None
-- a => invalid_input Span { start: 0, end: 1 } None
--  => invalid_input Span { start: 0, end: 0 } None
-- `${a}` => invalid_input Span { start: 0, end: 6 } None
-"u" "(?<a>)(?<\x61>)" => duplicated_capturing_group_names Span { start: 4, end: 5 } Some(Span { start: 10, end: 14 })"#;
-    agree(rt.alloc(), &CONSTRUCTOR, rows)
+    let rows = r#"- "" => Legacy (?:) 1..5 1 | 1..5 1..5;
+- '' => Legacy (?:) 1..5 1 | 1..5 1..5;
+"" `` => Legacy (?:) 1..5 1 | 1..5 1..5;
+'v' "" => Sets (?:) 1..5 1 | 1..5 1..5;
+- "\n" => Legacy \n 1..3 1 | 1..3 1..3 Symbol a;
+- "\012" => Legacy \n 1..5 1 | 1..5 1..5 Symbol a;
+"gi" "\\d+" => Legacy \d+ 1..5 1 | 1..5 1..5 1 None true of 1..4;
+"u" "\uD83D\uDE00" => Unicode \u{D83D}\u{DE00} 1..13 1 | 1..13 1..7 UnicodeEscape d83d; 7..13 UnicodeEscape de00;
+"u" 'a\uDE00' => Unicode a\u{DE00} 1..8 1 | 1..8 1..2 Symbol 61; 2..8 UnicodeEscape de00;
+`v` '[\\p{L}&&a]' => Sets [\p{L}&&a] 1..12 1 | 1..12 1..12 other;
+- "a => Diagnostic(InvalidInput { span: Span { start: 0, end: 2 } })
+- a => Diagnostic(InvalidInput { span: Span { start: 0, end: 1 } })
+-  => Diagnostic(InvalidInput { span: Span { start: 0, end: 0 } })
+- `${a}` => Diagnostic(InvalidInput { span: Span { start: 0, end: 6 } })
+"u" "(?<a>)(?<\x61>)" => Diagnostic(DuplicatedCapturingGroupNames { first: Span { start: 4, end: 5 }, second: Span { start: 10, end: 14 } })"#;
+    agree(rt.alloc(), &ARGUMENT, rows)?;
+    let rows =
+        r#""\uD83D" "a" => Diagnostic(UnknownFlag { span: Span { start: 8, end: 14 }, flag: 55357 })
+"gg" "a => Diagnostic(DuplicatedFlags { span: Span { start: 9, end: 10 }, flag: 103 })
+`uv` a => Diagnostic(InvalidUnicodeFlags { span: Span { start: 9, end: 10 } })
+"g\x67" "(" => Diagnostic(DuplicatedFlags { span: Span { start: 9, end: 13 }, flag: 103 })
+"gg "a => Diagnostic(InvalidInput { span: Span { start: 7, end: 10 } })
+u "a" => Diagnostic(InvalidInput { span: Span { start: 7, end: 8 } })
+ "a" => Diagnostic(InvalidInput { span: Span { start: 7, end: 7 } })
+"u" "a => Diagnostic(InvalidInput { span: Span { start: 0, end: 2 } })"#;
+    agree(rt.alloc(), &ARGUMENT_FLAGS_AT_SEVEN, rows)
 }
 
 #[test]
-fn flags_of_arguments(rt: HostRuntime) -> Result<(), Fail> {
-    let rows = r#""\uD83D" "a" => unknown_flag Span { start: 8, end: 14 } None
-"gg" "a => duplicated_flags Span { start: 9, end: 10 } None
-`uv` a => invalid_unicode_flags Span { start: 9, end: 10 } None
-"g\x67" "(" => duplicated_flags Span { start: 9, end: 13 } None
-"gg "a => invalid_input Span { start: 7, end: 10 } None
-u "a" => invalid_input Span { start: 7, end: 8 } None
- "a" => invalid_input Span { start: 7, end: 7 } None
-"u" "a => invalid_input Span { start: 0, end: 2 } None"#;
-    agree(rt.alloc(), &CONSTRUCTOR_AT_SEVEN, rows)
-}
-
-#[test]
-fn no_flag_of_a_mode(rt: HostRuntime) -> Result<(), Fail> {
-    let rows = "- [a] => Legacy [a] 0..3
--  => Legacy (?:) 0..4
-- a => Legacy a 0..1
- a => Legacy a 0..1
-gi a => Legacy a 0..1";
-    agree(rt.alloc(), &AT_ZERO, rows)
+fn flags(rt: HostRuntime) -> Result<(), Fail> {
+    let rows = r"- [a] => Legacy itself 0..3 1 | 0..3 0..3 other;
+-  => Legacy (?:) 0..4 1 | 0..4 0..4;
+- a => Legacy itself 0..1 1 | 0..1 0..1 Symbol 61;
+ a => Legacy itself 0..1 1 | 0..1 0..1 Symbol 61;
+gi a => Legacy itself 0..1 1 | 0..1 0..1 Symbol 61;
+u a => Unicode itself 0..1 1 | 0..1 0..1 Symbol 61;
+ui a => Unicode itself 0..1 1 | 0..1 0..1 Symbol 61;
+su a => Unicode itself 0..1 1 | 0..1 0..1 Symbol 61;
+dgimsuy a => Unicode itself 0..1 1 | 0..1 0..1 Symbol 61;
+v a => Sets itself 0..1 1 | 0..1 0..1 Symbol 61;
+iv (a[b]) => Sets itself 0..6 1 | 0..6 0..6  1..5 1;
+v \p{L} => Sets itself 0..5 1 | 0..5 0..5 other;
+v [ab--c] => Diagnostic(UnterminatedPattern { span: Span { start: 0, end: 3 }, what: CharacterClass })";
+    agree(rt.alloc(), &LITERAL, rows)?;
+    let rows = "gg ( => Diagnostic(DuplicatedFlags { span: Span { start: 8, end: 9 }, flag: 103 })
+ux ( => Diagnostic(UnknownFlag { span: Span { start: 8, end: 9 }, flag: 120 })
+uv ( => Diagnostic(InvalidUnicodeFlags { span: Span { start: 8, end: 9 } })
+vu ( => Diagnostic(InvalidUnicodeFlags { span: Span { start: 8, end: 9 } })
+é ( => Diagnostic(UnknownFlag { span: Span { start: 7, end: 9 }, flag: 233 })";
+    agree(rt.alloc(), &FLAGS_AT_SEVEN, rows)
 }
 
 #[test]
@@ -127,45 +187,4 @@ fn options_are_zero_where_none_are_given(rt: HostRuntime) {
         (options.pattern_span_offset, options.flags_span_offset),
         (0, 0)
     );
-}
-
-#[test]
-fn flags(rt: HostRuntime) -> Result<(), Fail> {
-    let rows = "u a => Unicode a 0..1
-ui a => Unicode a 0..1
-su a => Unicode a 0..1
-dgimsuy a => Unicode a 0..1
-v a => Sets a 0..1
-iv (a[b]) => Sets (a[b]) 0..6
-v \\p{L} => Sets \\p{L} 0..5
-v [ab--c] => unterminated_pattern Span { start: 0, end: 3 } None";
-    agree(rt.alloc(), &AT_ZERO, rows)?;
-    let rows = "gg ( => duplicated_flags Span { start: 8, end: 9 } None
-ux ( => unknown_flag Span { start: 8, end: 9 } None
-uv ( => invalid_unicode_flags Span { start: 8, end: 9 } None
-vu ( => invalid_unicode_flags Span { start: 8, end: 9 } None
-é ( => unknown_flag Span { start: 7, end: 9 } None";
-    agree(rt.alloc(), &LITERAL, rows)
-}
-
-#[test]
-fn spans_of_arguments_end_at_the_greatest_offset(rt: HostRuntime) -> Result<(), Fail> {
-    let options = Options {
-        pattern_span_offset: 4294967289,
-        flags_span_offset: 4294967292,
-        ..Options::default()
-    };
-    let undecoded = canonical(rt.alloc(), Form::Constructor, "\"a", Some("'u'"), options);
-    let text = show_answer(rt.alloc(), undecoded)?;
-    assert_eq!(rt;
-        text.as_str(),
-        "invalid_input Span { start: 4294967289, end: 4294967291 } None"
-    );
-    let flags = canonical(rt.alloc(), Form::Constructor, "\"a", Some("'x'"), options);
-    let text = show_answer(rt.alloc(), flags)?;
-    assert_eq!(rt;
-        text.as_str(),
-        "unknown_flag Span { start: 4294967293, end: 4294967294 } None"
-    );
-    Ok(())
 }

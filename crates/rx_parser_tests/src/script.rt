@@ -1,25 +1,26 @@
 //! What a builder is told, as a text of signs, each of which stands for what is read of a pattern at once.
 use rx_ast::{BoundaryAssertion, BoundaryAssertionKind, Dot, LookAroundAssertionKind, Term};
-use rx_base::{OutOfMemory, Span, Text};
+use rx_base::{List, OutOfMemory, Span, Text};
 use rx_parser::{Builder, GroupKind};
 use std::alloc::Global;
 
-/// Gives the builder each sign, from a byte on. The answer has a `+` for each closer and quantifier that is taken, and a `-` for each that is not; and
-/// the byte where it ends.
+/// Gives the builder each sign, from a byte on. The answer has the byte of each sign that is not taken, and the byte where the script ends.
 pub fn follow(
     alloc: Global,
     builder: &mut Builder,
     script: &str,
     start: u32,
-) -> Result<(String, u32), OutOfMemory> {
-    let mut taken = String::new(alloc);
+) -> Result<(List<u32>, u32), OutOfMemory> {
+    let mut refused = List::new(alloc);
     let mut at = start;
     for sign in script.chars() {
         let after = at.saturating_add(width(sign));
-        taken.push_str(step(alloc, builder, sign, at, after)?)?;
+        if !step(alloc, builder, sign, at, after)? {
+            refused.push(at)?;
+        }
         at = after;
     }
-    Ok((taken, at))
+    Ok((refused, at))
 }
 
 /// How many bytes a sign stands for: `N` for `(?<n>`, `q` for `{2,3}?`, and so on.
@@ -33,33 +34,23 @@ fn width(sign: char) -> u32 {
     }
 }
 
+/// Whether a sign is taken: a closer, a quantifier, or another, which always is.
 fn step(
     alloc: Global,
     builder: &mut Builder,
     sign: char,
     at: u32,
     after: u32,
-) -> Result<&'static str, OutOfMemory> {
+) -> Result<bool, OutOfMemory> {
     match sign {
-        ')' => Ok(mark(builder.close(alloc, at, after)?)),
-        '*' => Ok(mark(builder.quantify((0, None), true, after)?)),
-        'q' => Ok(mark(builder.quantify((2, Some(3)), false, after)?)),
-        '|' => {
-            builder.bar(alloc, at, after)?;
-            Ok("")
-        }
-        _ => {
-            begin(alloc, builder, sign, at, after)?;
-            Ok("")
-        }
+        ')' => builder.close(alloc, at, after),
+        '*' => builder.quantify((0, None), true, after),
+        'q' => builder.quantify((2, Some(3)), false, after),
+        _ => begin(alloc, builder, sign, at, after).and(Ok(true)),
     }
 }
 
-fn mark(taken: bool) -> &'static str {
-    if taken { "+" } else { "-" }
-}
-
-/// An opener, or a leaf.
+/// A bar, a leaf, or an opener.
 fn begin(
     alloc: Global,
     builder: &mut Builder,
@@ -69,6 +60,7 @@ fn begin(
 ) -> Result<(), OutOfMemory> {
     let span = Span::new(at, after);
     let group_kind = match sign {
+        '|' => return builder.bar(alloc, at, after),
         '.' => return builder.leaf(Term::Dot(Dot { span })),
         '^' => return builder.leaf(start_of(span)),
         'N' => GroupKind::Capturing(Some(Text::from_str(alloc, "n")?)),

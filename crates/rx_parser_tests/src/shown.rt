@@ -1,102 +1,95 @@
-//! The spans of a pattern as a text.
-use rx_ast::{Alternative, CapturingGroup, Disjunction, IgnoreGroup, Pattern, Term};
-use rx_base::{GetSpan, OutOfMemory, Span};
-use std::alloc::Global;
+//! Patterns as texts.
+use rx_ast::{Alternative, CapturingGroup, Modifiers, Pattern, Quantifier, Term};
+use rx_base::{Fault, GetSpan};
+use std::fmt;
 
-fn add(alloc: Global, shown: &mut String, opener: &str, span: Span) -> Result<(), OutOfMemory> {
-    let piece = format!(in alloc; "{opener}{}..{}", span.start, span.end)?;
-    shown.push_str(&piece)?;
+/// A pattern that was read, or why none was.
+#[derive(Clone, Copy)]
+pub struct Read<'a>(pub &'a Result<Pattern, Fault>);
+
+impl fmt::Display for Read<'_> {
+    fn fmt<W: fmt::Write>(&self, f: &mut fmt::Formatter<W>) -> fmt::Result {
+        match self.0 {
+            Ok(pattern) => write_pattern(f, pattern),
+            Err(fault) => write!(f, "{fault:?}"),
+        }
+    }
+}
+
+/// Writes the span of a pattern and how many alternatives it has; and for each of the first four a bar, its span, and the last four of its terms.
+pub fn write_pattern<W: fmt::Write>(f: &mut fmt::Formatter<W>, pattern: &Pattern) -> fmt::Result {
+    let (span, alternatives) = (pattern.span, pattern.body.body.as_slice());
+    let count = alternatives.len();
+    write!(f, "{}..{} {count}", span.start, span.end)?;
+    for alternative in &alternatives[..count.min(4)] {
+        write_alternative(f, alternative)?;
+    }
     Ok(())
 }
 
-fn add_alternative(
-    alloc: Global,
-    shown: &mut String,
+fn write_alternative<W: fmt::Write>(
+    f: &mut fmt::Formatter<W>,
     alternative: &Alternative,
-) -> Result<(), OutOfMemory> {
-    add(alloc, shown, " | ", alternative.span)?;
-    for term in alternative.body.as_slice() {
-        add(alloc, shown, " ", term.span())?;
+) -> fmt::Result {
+    let (span, terms) = (alternative.span, alternative.body.as_slice());
+    write!(f, " | {}..{}", span.start, span.end)?;
+    for term in &terms[terms.len().saturating_sub(4)..] {
+        write_term(f, term)?;
     }
     Ok(())
 }
 
-/// The span of a pattern; and after a bar that of each alternative, and those of its terms.
-pub fn outline(alloc: Global, pattern: &Pattern) -> Result<String, OutOfMemory> {
-    let mut shown = String::new(alloc);
-    add(alloc, &mut shown, "", pattern.span)?;
-    for alternative in pattern.body.body.as_slice() {
-        add_alternative(alloc, &mut shown, alternative)?;
-    }
-    Ok(shown)
-}
-
-/// Of a quantified group: the numbers of the quantifier and whether it is greedy, the span of the group, and that of its body and how many alternatives
-/// that has.
-pub fn quantified(alloc: Global, pattern: &Pattern) -> Result<String, OutOfMemory> {
-    let Some(Term::Quantifier(it)) = first_term(&pattern.body) else {
-        return Ok(String::new(alloc));
-    };
-    let Term::CapturingGroup(group) = &it.body else {
-        return Ok(String::new(alloc));
-    };
-    let mut shown = format!(in alloc; "{} {:?} {}", it.min, it.max, it.greedy)?;
-    add(alloc, &mut shown, " ", group.span)?;
-    add(alloc, &mut shown, " ", group.body.span)?;
-    shown.push_str(&format!(in alloc; " {}", group.body.body.len())?)?;
-    Ok(shown)
-}
-
-fn first_term(disjunction: &Disjunction) -> Option<&Term> {
-    disjunction.body.get(0)?.body.get(0)
-}
-
-/// The terms of the first alternative, each with its span.
-pub fn terms(alloc: Global, pattern: &Pattern) -> Result<String, OutOfMemory> {
-    let mut shown = String::new(alloc);
-    let Some(alternative) = pattern.body.body.get(0) else {
-        return Ok(shown);
-    };
-    for (place, term) in alternative.body.as_slice().iter().enumerate() {
-        add(
-            alloc,
-            &mut shown,
-            if place == 0 { "" } else { " " },
-            term.span(),
-        )?;
-        shown.push_str(&shown_term(alloc, term)?)?;
-    }
-    Ok(shown)
-}
-
-/// A term, but for its span: a named group, a group with modifiers, or a term with no term in it.
-fn shown_term(alloc: Global, term: &Term) -> Result<String, OutOfMemory> {
+/// Writes the span of a term and what else it holds, but for the terms in it.
+fn write_term<W: fmt::Write>(f: &mut fmt::Formatter<W>, term: &Term) -> fmt::Result {
+    let span = term.span();
+    write!(f, " {}..{}", span.start, span.end)?;
     match term {
-        Term::CapturingGroup(it) => shown_group(alloc, it),
-        Term::IgnoreGroup(it) => shown_modifiers(alloc, it),
-        Term::IndexedReference(it) => Ok(format!(in alloc; " reference {};", it.index)?),
-        Term::NamedReference(it) => Ok(format!(in alloc; " reference {};", it.name.as_str())?),
-        Term::Character(it) => Ok(format!(in alloc; " {:?} {:x};", it.kind, it.value)?),
-        Term::Dot(_) => Ok(String::from_str(alloc, " dot;")?),
-        _ => Ok(String::from_str(alloc, " other;")?),
+        Term::CapturingGroup(it) => write_group(f, it),
+        Term::IgnoreGroup(it) => write_modifiers(f, &it.modifiers),
+        Term::Quantifier(it) => write_quantifier(f, it),
+        Term::IndexedReference(it) => write!(f, " reference {};", it.index),
+        Term::NamedReference(it) => write!(f, " reference {};", it.name.as_str()),
+        Term::Character(it) => write!(f, " {:?} {:x};", it.kind, it.value),
+        Term::Dot(_) => f.write_str(" dot;"),
+        _ => f.write_str(" other;"),
     }
 }
 
-fn shown_group(alloc: Global, group: &CapturingGroup) -> Result<String, OutOfMemory> {
+/// Writes the name of a group, the span of what is in it, and how many alternatives that has.
+fn write_group<W: fmt::Write>(f: &mut fmt::Formatter<W>, group: &CapturingGroup) -> fmt::Result {
     let name = group.name.as_ref().map_or("", |name| name.as_str());
-    let span = group.body.span;
-    Ok(format!(in alloc; " {name} {}..{};", span.start, span.end)?)
+    let (span, alternatives) = (group.body.span, group.body.body.len());
+    write!(f, " {name} {}..{} {alternatives};", span.start, span.end)
 }
 
-fn shown_modifiers(alloc: Global, group: &IgnoreGroup) -> Result<String, OutOfMemory> {
-    let Some(it) = &group.modifiers else {
-        return Ok(String::new(alloc));
-    };
-    Ok(format!(in alloc;
-        " {}..{} {} {};",
-        it.span.start,
-        it.span.end,
-        it.enabling.bits(),
-        it.disabling.bits()
-    )?)
+/// Writes the span of modifiers, and the bits of those that are enabled and of those that are disabled.
+fn write_modifiers<W: fmt::Write>(
+    f: &mut fmt::Formatter<W>,
+    modifiers: &Option<Modifiers>,
+) -> fmt::Result {
+    match modifiers {
+        Some(it) => write!(
+            f,
+            " {}..{} {} {};",
+            it.span.start,
+            it.span.end,
+            it.enabling.bits(),
+            it.disabling.bits()
+        ),
+        None => f.write_str(";"),
+    }
+}
+
+/// Writes the numbers of a quantifier, whether it is greedy, and the span of its body; where that is a group, what else the group holds.
+fn write_quantifier<W: fmt::Write>(f: &mut fmt::Formatter<W>, it: &Quantifier) -> fmt::Result {
+    let body = it.body.span();
+    write!(
+        f,
+        " {} {:?} {} of {}..{}",
+        it.min, it.max, it.greedy, body.start, body.end
+    )?;
+    match &it.body {
+        Term::CapturingGroup(group) => write_group(f, group),
+        _ => f.write_str(";"),
+    }
 }

@@ -10,15 +10,6 @@ use std::marker::Brand;
 use std::sync::ledger::{Blank, Ledger};
 use std::test::Fail;
 
-/// How many steps it takes to read a text, whether it is a pattern or not.
-fn steps_of(alloc: Global, text: &str, modes: (bool, bool)) -> Result<u64, Fail>
-    requires { length text.now < 2 ^ 32 }
-{
-    let reader = Reader::initialize(alloc, text, modes.0, false)?;
-    let parser = PatternParser::new(alloc, reader, modes, 0, (true, true));
-    Ok(counted::<Brand>(parser, Blank::new(1)))
-}
-
 /// How many steps a parser takes.
 fn counted<L: Ledger>(parser: PatternParser<'_>, blank: Blank) -> u64
     requires start { parser.reader.place ≡ 0 }
@@ -33,27 +24,28 @@ fn counted<L: Ledger>(parser: PatternParser<'_>, blank: Blank) -> u64
     tally.total()
 }
 
-/// Texts in a mode.
-#[derive(Clone, Copy)]
-struct StepsCall {
+/// Texts in a mode, whether they are patterns or not.
+struct Stepping {
     modes: (bool, bool),
 }
 
-const LEGACY: StepsCall = StepsCall {
+const LEGACY: Stepping = Stepping {
     modes: (false, false),
 };
 
-const UNICODE: StepsCall = StepsCall {
+const UNICODE: Stepping = Stepping {
     modes: (true, false),
 };
 
-const SETS: StepsCall = StepsCall {
+const SETS: Stepping = Stepping {
     modes: (true, true),
 };
 
-impl Call for StepsCall {
+impl Call for Stepping {
     fn answer(&self, alloc: Global, asked: &str) -> Result<String, Fail> {
-        let steps = steps_of(alloc, short(asked)?, self.modes)?;
+        let reader = Reader::initialize(alloc, short(asked)?, self.modes.0, false)?;
+        let parser = PatternParser::new(alloc, reader, self.modes, 0, (true, true));
+        let steps = counted::<Brand>(parser, Blank::new(1));
         Ok(format!(in alloc; "{steps}")?)
     }
 }
@@ -124,10 +116,15 @@ a{2 => 7
 }
 
 /// Eighty times a text, one after the other: the worst of each loop.
-#[derive(Clone, Copy)]
 struct EightyTimes {
-    each: StepsCall,
+    each: Stepping,
 }
+
+const EIGHTY_LEGACY: EightyTimes = EightyTimes { each: LEGACY };
+
+const EIGHTY_UNICODE: EightyTimes = EightyTimes { each: UNICODE };
+
+const EIGHTY_SETS: EightyTimes = EightyTimes { each: SETS };
 
 impl Call for EightyTimes {
     fn answer(&self, alloc: Global, asked: &str) -> Result<String, Fail> {
@@ -149,7 +146,7 @@ fn worst_texts_without_flags(rt: HostRuntime) -> Result<(), Fail> {
 a{1,2} => 1760
 \\u111z => 1840
 (?=a)* => 1120";
-    agree(rt.alloc(), &EightyTimes { each: LEGACY }, rows)
+    agree(rt.alloc(), &EIGHTY_LEGACY, rows)
 }
 
 #[test]
@@ -167,7 +164,7 @@ fn worst_texts_with_u(rt: HostRuntime) -> Result<(), Fail> {
 \\p{L} => 1040
 \\p{gc=L} => 1760
 [\\u{1}] => 1280";
-    agree(rt.alloc(), &EightyTimes { each: UNICODE }, rows)
+    agree(rt.alloc(), &EIGHTY_UNICODE, rows)
 }
 
 #[test]
@@ -176,5 +173,5 @@ fn worst_texts_with_v(rt: HostRuntime) -> Result<(), Fail> {
 [a--b] => 960
 [\\q{a|b}] => 1440
 [[a]] => 800";
-    agree(rt.alloc(), &EightyTimes { each: SETS }, rows)
+    agree(rt.alloc(), &EIGHTY_SETS, rows)
 }
