@@ -1,68 +1,70 @@
-use crate::made::{class_term, displayed_term, dot, group_of, quantified, spelled_term, union};
-use rx_ast::{CharacterClass, CharacterClassContents, Term};
+//! Trees of a depth for which the stack is too small.
+use crate::trees::{NOWHERE, alone, class_alone, dot, quantified, union};
+use rx_ast::{CapturingGroup, CharacterClassContents, Pattern, Term};
 use rx_base::{List, OutOfMemory};
-use rx_tools::Mode;
+use rx_tools::{Mode, canonical_text, display_text};
 use std::alloc::Global;
 
-const DEEP: u32 = 500_000;
+const DEPTH: usize = 500_000;
 
-fn deep_groups(alloc: Global) -> Result<Term, OutOfMemory> {
-    let mut term = dot();
-    for _ in 0..DEEP {
-        term = group_of(alloc, None, term)?;
+/// How long the canonical spelling of a tree is, and the text that `Display` writes of it.
+fn lengths(alloc: Global, mode: Mode, pattern: Pattern) -> Result<[usize; 2], OutOfMemory> {
+    let spelled = canonical_text(alloc, &pattern, mode)?.as_str().len();
+    let displayed = display_text(alloc, &pattern)?.as_str().len();
+    Ok([spelled, displayed])
+}
+
+fn deep_groups(alloc: Global) -> Result<Pattern, OutOfMemory> {
+    let mut body = alone(alloc, dot())?.body;
+    for _ in 0..DEPTH {
+        let group = CapturingGroup {
+            span: NOWHERE,
+            name: None,
+            body,
+        };
+        body = alone(alloc, Term::CapturingGroup(Box::new(alloc, group)?))?.body;
     }
-    Ok(term)
+    Ok(Pattern {
+        span: NOWHERE,
+        body,
+    })
 }
 
 #[test]
 fn deep_groups_need_no_deep_stack(rt: HostRuntime) -> Result<(), OutOfMemory> {
-    let alloc = rt.alloc();
-    let text = spelled_term(alloc, Mode::Unicode, deep_groups(alloc)?)?;
-    assert_eq!(rt; text.as_str().len(), 1_000_001);
-    let text = displayed_term(alloc, deep_groups(alloc)?)?;
-    assert_eq!(rt; text.as_str().len(), 1_000_001);
+    let lengths = lengths(rt.alloc(), Mode::Unicode, deep_groups(rt.alloc())?)?;
+    assert_eq!(rt; lengths, [1_000_001, 1_000_001]);
     Ok(())
 }
 
-fn deep_quantifiers(alloc: Global) -> Result<Term, OutOfMemory> {
+fn deep_quantifiers(alloc: Global) -> Result<Pattern, OutOfMemory> {
     let mut term = dot();
-    for _ in 0..DEEP {
+    for _ in 0..DEPTH {
         term = quantified(alloc, 0, None, true, term)?;
     }
-    Ok(term)
+    alone(alloc, term)
 }
 
 #[test]
 fn deep_quantifiers_need_no_deep_stack(rt: HostRuntime) -> Result<(), OutOfMemory> {
-    let alloc = rt.alloc();
-    let text = spelled_term(alloc, Mode::Unicode, deep_quantifiers(alloc)?)?;
-    assert_eq!(rt; text.as_str().len(), 500_001);
-    let text = displayed_term(alloc, deep_quantifiers(alloc)?)?;
-    assert_eq!(rt; text.as_str().len(), 500_001);
+    let lengths = lengths(rt.alloc(), Mode::Unicode, deep_quantifiers(rt.alloc())?)?;
+    assert_eq!(rt; lengths, [500_001, 500_001]);
     Ok(())
 }
 
-/// A class that holds this one alone.
-fn around(alloc: Global, class: CharacterClass) -> Result<CharacterClass, OutOfMemory> {
-    let mut body = List::new(alloc);
-    body.push(CharacterClassContents::NestedCharacterClass(Box::new(alloc, class)?))?;
-    Ok(union(body))
-}
-
-fn deep_classes(alloc: Global) -> Result<Term, OutOfMemory> {
+fn deep_classes(alloc: Global) -> Result<Pattern, OutOfMemory> {
     let mut class = union(List::new(alloc));
-    for _ in 1..DEEP {
-        class = around(alloc, class)?;
+    for _ in 1..DEPTH {
+        let mut body = List::new(alloc);
+        body.push(CharacterClassContents::NestedCharacterClass(Box::new(alloc, class)?))?;
+        class = union(body);
     }
-    class_term(alloc, class)
+    class_alone(alloc, class)
 }
 
 #[test]
 fn deep_classes_need_no_deep_stack(rt: HostRuntime) -> Result<(), OutOfMemory> {
-    let alloc = rt.alloc();
-    let text = spelled_term(alloc, Mode::Sets, deep_classes(alloc)?)?;
-    assert_eq!(rt; text.as_str().len(), 1_000_000);
-    let text = displayed_term(alloc, deep_classes(alloc)?)?;
-    assert_eq!(rt; text.as_str().len(), 1_000_000);
+    let lengths = lengths(rt.alloc(), Mode::Sets, deep_classes(rt.alloc())?)?;
+    assert_eq!(rt; lengths, [1_000_000, 1_000_000]);
     Ok(())
 }

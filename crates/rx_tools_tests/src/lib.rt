@@ -1,23 +1,13 @@
-//! Tests of the printers on trees that are made by hand, and on patterns that are read.
+//! Tests of the printers on trees that are made by hand, and on patterns that are read; of walks and of support checks.
 #![tactic(auto)]
 
 #[cfg(test)]
-mod contents;
-#[cfg(test)]
 mod deep;
-#[cfg(test)]
-mod displaying;
-#[cfg(test)]
-mod made;
 #[cfg(test)]
 mod printing;
 #[cfg(test)]
-mod signs;
-#[cfg(test)]
 mod supporting;
 #[cfg(test)]
-mod unspelled;
+mod trees;
 #[cfg(test)]
 mod walking;
-#[cfg(test)]
-mod writing;

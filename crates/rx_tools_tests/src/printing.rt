@@ -1,242 +1,233 @@
-use crate::made::{
-    class_term, dot, in_class, modified, property, quantified, spelled_term, spelling, union,
-};
-use crate::signs::{SpellingCall, characters_outside};
-use rx_ast::Term;
-use rx_base::{List, OutOfMemory, Text};
+//! What the printers write.
+ghost use Rattle.std.specs.Prelude.{◌<◌};
+
+use crate::trees::tree;
+use rx_ast::Pattern;
+use rx_base::{Failed, List, MemorySink};
 use rx_rows::{Call, agree};
-use rx_tools::Mode;
+use rx_tools::{Mode, append_canonical, canonical_text, display_text, write_canonical};
 use std::alloc::Global;
 use std::test::Fail;
 
-const VALUES: [u32; 31] = [
-    0x0, 0x8, 0x9, 0xA, 0xB, 0xC, 0xD, 0xE, 0x1F, 0x20, 0x21, 0x26, 0x2D, 0x2F, 0x39, 0x61, 0x7E,
-    0x7F, 0x9F, 0xA0, 0x2027, 0x2028, 0x2029, 0xD7FF, 0xD800, 0xDFFF, 0xE000, 0xFFFF, 0x10000,
-    0x10FFFF, 0x110000,
-];
-
-/// The canonical spelling of these characters as a class.
-fn characters_inside(alloc: Global, mode: Mode, values: &[u32]) -> Result<Text, OutOfMemory> {
-    let mut body = List::new(alloc);
-    for value in values {
-        body.push(in_class(*value))?;
-    }
-    spelled_term(alloc, mode, class_term(alloc, union(body))?)
-}
-
-#[test]
-fn characters_have_the_first_spelling_that_fits(rt: HostRuntime) -> Result<(), OutOfMemory> {
-    for (mode, want) in [
-        (
-            Mode::Legacy,
-            "\\x00\\x08\\t\\n\\v\\f\\r\\x0E\\x1F !&-\\/9a~\\x7F\\x9F\u{A0}\u{2027}\\u2028\\u2029\u{D7FF}\\uD800\\uDFFF\u{E000}\u{FFFF}\\u{10000}\\u{10FFFF}\\u{110000}",
-        ),
-        (
-            Mode::Unicode,
-            "\\x00\\x08\\t\\n\\v\\f\\r\\x0E\\x1F !&-\\/9a~\\x7F\\x9F\u{A0}\u{2027}\\u2028\\u2029\u{D7FF}\\u{D800}\\u{DFFF}\u{E000}\u{FFFF}\u{10000}\u{10FFFF}\\u{110000}",
-        ),
-        (
-            Mode::Sets,
-            "\\x00\\x08\\t\\n\\v\\f\\r\\x0E\\x1F !&-\\/9a~\\x7F\\x9F\u{A0}\u{2027}\\u2028\\u2029\u{D7FF}\\u{D800}\\u{DFFF}\u{E000}\u{FFFF}\u{10000}\u{10FFFF}\\u{110000}",
-        ),
-    ] {
-        let text = characters_outside(rt.alloc(), mode, &VALUES)?;
-        assert_eq!(rt; text.as_str(), want);
-    }
-    Ok(())
-}
-
-#[test]
-fn characters_of_classes_have_the_first_spelling_that_fits(
-    rt: HostRuntime,
-) -> Result<(), OutOfMemory> {
-    for (mode, want) in [
-        (
-            Mode::Legacy,
-            "[\\x00\\x08\\t\\n\\v\\f\\r\\x0E\\x1F !&\\-\\/9a~\\x7F\\x9F\u{A0}\u{2027}\\u2028\\u2029\u{D7FF}\\uD800\\uDFFF\u{E000}\u{FFFF}\\u{10000}\\u{10FFFF}\\u{110000}]",
-        ),
-        (
-            Mode::Unicode,
-            "[\\x00\\x08\\t\\n\\v\\f\\r\\x0E\\x1F !&\\-\\/9a~\\x7F\\x9F\u{A0}\u{2027}\\u2028\\u2029\u{D7FF}\\u{D800}\\u{DFFF}\u{E000}\u{FFFF}\u{10000}\u{10FFFF}\\u{110000}]",
-        ),
-        (
-            Mode::Sets,
-            "[\\x00\\x08\\t\\n\\v\\f\\r\\x0E\\x1F \\!\\&\\-\\/9a\\~\\x7F\\x9F\u{A0}\u{2027}\\u2028\\u2029\u{D7FF}\\u{D800}\\u{DFFF}\u{E000}\u{FFFF}\u{10000}\u{10FFFF}\\u{110000}]",
-        ),
-    ] {
-        let text = characters_inside(rt.alloc(), mode, &VALUES)?;
-        assert_eq!(rt; text.as_str(), want);
-    }
-    Ok(())
-}
-
-/// The canonical spelling of the characters of a text, outside classes or as a class.
+/// What writes a tree, as its canonical spelling in a mode or as `Display` does.
 #[derive(Clone, Copy)]
-struct CharactersCall {
-    mode: Mode,
-    inside: bool,
+enum Printer {
+    CanonicalText(Mode),
+
+    /// After a byte that is there.
+    AppendCanonical(Mode),
+
+    /// To a sink that has room for no more than the spelling and takes so many bytes at a time. The call of this number fails.
+    WriteCanonical {
+        mode: Mode,
+        step: usize,
+        fails: usize,
+    },
+    DisplayText,
+    Display,
 }
 
-impl Call for CharactersCall {
+impl Call for Printer {
     fn answer(&self, alloc: Global, asked: &str) -> Result<String, Fail> {
-        let mut values = Vec::new(alloc);
-        for c in asked.chars() {
-            values.push(c as u32)?;
-        }
-        let text = if self.inside {
-            characters_inside(alloc, self.mode, &values)?
-        } else {
-            characters_outside(alloc, self.mode, &values)?
-        };
-        Ok(String::from_str(alloc, text.as_str())?)
-    }
-}
-
-#[test]
-fn punctuation_has_a_backslash_where_it_means_something(rt: HostRuntime) -> Result<(), Fail> {
-    let row =
-        "^$\\.*+?()[]{}|/&-!#%,:;<=>@`~\"'_ => \\^\\$\\\\\\.\\*\\+\\?\\(\\)\\[\\]\\{\\}\\|\\/&-!#%,:;<=>@`~\"'_";
-    for mode in [Mode::Legacy, Mode::Sets] {
-        let call = CharactersCall {
-            mode,
-            inside: false,
-        };
-        agree(rt.alloc(), &call, row)?;
-    }
-    Ok(())
-}
-
-#[test]
-fn punctuation_in_classes_has_a_backslash_where_it_means_something(
-    rt: HostRuntime,
-) -> Result<(), Fail> {
-    let call = CharactersCall {
-        mode: Mode::Legacy,
-        inside: true,
-    };
-    let row =
-        "^$\\.*+?()[]{}|/&-!#%,:;<=>@`~\"'_ => [\\^\\$\\\\\\.\\*\\+\\?\\(\\)\\[\\]\\{\\}\\|\\/&\\-!#%,:;<=>@`~\"'_]";
-    agree(rt.alloc(), &call, row)?;
-    let call = CharactersCall {
-        mode: Mode::Sets,
-        inside: true,
-    };
-    let row =
-        "^$\\.*+?()[]{}|/&-!#%,:;<=>@`~\"'_ => [\\^\\$\\\\\\.\\*\\+\\?\\(\\)\\[\\]\\{\\}\\|\\/\\&\\-\\!\\#\\%\\,\\:\\;\\<\\=\\>\\@\\`\\~\"'_]";
-    agree(rt.alloc(), &call, row)
-}
-
-const LEGACY: SpellingCall = SpellingCall { mode: Mode::Legacy };
-
-const UNICODE: SpellingCall = SpellingCall {
-    mode: Mode::Unicode,
-};
-
-#[test]
-fn a_digit_does_not_go_on_with_a_reference(rt: HostRuntime) -> Result<(), Fail> {
-    let rows = "199 => \\1\\x399
-119 => \\1\\1\\x39
-1.9 => \\1.9
-1m => \\1\\x39*
-q9 => \\1*9
-1c => \\1[9]
-n9 => \\k<n>9
-h9 => (\\1)9
-1g => \\1(9)";
-    agree(rt.alloc(), &LEGACY, rows)
-}
-
-#[test]
-fn quantifiers_are_short(rt: HostRuntime) -> Result<(), OutOfMemory> {
-    let rows = [
-        (0, None, true),
-        (1, None, true),
-        (0, Some(1), true),
-        (2, Some(2), true),
-        (2, Some(3), true),
-        (2, None, true),
-        (0, Some(0), true),
-        (1, Some(1), true),
-        (3, Some(2), true),
-        (0, None, false),
-        (0, Some(1), false),
-        (10, Some(18446744073709551615), false),
-    ];
-    let mut terms = List::new(rt.alloc());
-    for (min, max, greedy) in rows {
-        terms.push(quantified(rt.alloc(), min, max, greedy, dot())?)?;
-    }
-    let text = spelling(rt.alloc(), Mode::Unicode, terms)?;
-    let want = ".*.+.?.{2}.{2,3}.{2,}.{0}.{1}.{3,2}.*?.??.{10,18446744073709551615}?";
-    assert_eq!(rt; text.as_str(), want);
-    Ok(())
-}
-
-/// A group with modifiers, by two hexadecimal digits: the bits that are enabled and those that are disabled.
-#[derive(Clone, Copy)]
-struct ModifiersCall;
-
-impl Call for ModifiersCall {
-    fn answer(&self, alloc: Global, asked: &str) -> Result<String, Fail> {
-        let mut digits = asked.chars().filter_map(|digit| digit.to_digit(16));
-        let enabling = digits.next().ok_or("no digit")?;
-        let disabling = digits.next().ok_or("no second digit")?;
-        let term = modified(alloc, enabling, disabling, dot())?;
-        let text = spelled_term(alloc, Mode::Unicode, term)?;
-        Ok(String::from_str(alloc, text.as_str())?)
-    }
-}
-
-#[test]
-fn groups_begin_with_what_they_are(rt: HostRuntime) -> Result<(), Fail> {
-    agree(rt.alloc(), &UNICODE, "(N: => (.)(?<größe>.)(?:.)")?;
-    let rows = "16 => (?i-ms:.)
-04 => (?-s:.)
-70 => (?ims:.)
-52 => (?is-m:.)
-b8 => (?im:.)
-00 => (?:.)";
-    agree(rt.alloc(), &ModifiersCall, rows)
-}
-
-#[test]
-fn assertions_and_escapes(rt: HostRuntime) -> Result<(), Fail> {
-    let row = "^$bBAzZdDsSwW=!<> => ^$\\b\\B\\A\\z\\Z\\d\\D\\s\\S\\w\\W(?=.)(?!.)(?<=.)(?<!.)";
-    agree(rt.alloc(), &LEGACY, row)
-}
-
-/// A property escape: `+` or `-`, its name, and `=` and its value where it has one.
-#[derive(Clone, Copy)]
-struct PropertyCall;
-
-impl Call for PropertyCall {
-    fn answer(&self, alloc: Global, asked: &str) -> Result<String, Fail> {
-        let negative = asked.starts_with('-');
-        let words = asked.trim_start_matches(['+', '-']);
-        let it = match words.split_once('=') {
-            None => property(alloc, negative, words, None)?,
-            Some((name, value)) => {
-                property(alloc, negative, name, Some(Text::from_str(alloc, value)?))?
+        let pattern = tree(alloc, asked)?;
+        match *self {
+            Printer::CanonicalText(mode) => {
+                let text = canonical_text(alloc, &pattern, mode)?;
+                Ok(String::from_str(alloc, text.as_str())?)
             }
-        };
-        let term = Term::UnicodePropertyEscape(Box::new(alloc, it)?);
-        let text = spelled_term(alloc, Mode::Sets, term)?;
-        Ok(String::from_str(alloc, text.as_str())?)
+            Printer::AppendCanonical(mode) => appended(alloc, &pattern, mode),
+            Printer::WriteCanonical { mode, step, fails } => {
+                written(alloc, &pattern, mode, step.max(1), fails as u64)
+            }
+            Printer::DisplayText => {
+                let text = display_text(alloc, &pattern)?;
+                Ok(String::from_str(alloc, text.as_str())?)
+            }
+            Printer::Display => Ok(format!(in alloc; "{pattern}")?),
+        }
     }
 }
 
-#[test]
-fn a_general_category_stands_alone(rt: HostRuntime) -> Result<(), Fail> {
-    let rows = "+L => \\p{L}
--Script=Greek => \\P{Script=Greek}
-+General_Category=Lu => \\p{Lu}
--General_Category=Lu => \\P{Lu}
-+General_Category => \\p{General_Category}
-+gc=Lu => \\p{gc=Lu}";
-    agree(rt.alloc(), &PropertyCall, rows)
+fn appended(alloc: Global, pattern: &Pattern, mode: Mode) -> Result<String, Fail> {
+    let mut bytes = List::new(alloc);
+    bytes.push(b'x')?;
+    append_canonical(alloc, &mut bytes, pattern, mode)?;
+    let text = str::from_utf8(bytes.as_slice()).ok().ok_or("no text")?;
+    let text = text.strip_prefix('x').ok_or("another byte")?;
+    Ok(String::from_str(alloc, text)?)
+}
+
+/// What the sink takes, with `!` after it where a write failed.
+fn written(
+    alloc: Global,
+    pattern: &Pattern,
+    mode: Mode,
+    step: usize,
+    fails: u64,
+) -> Result<String, Fail>
+    requires { 0 < step }
+{
+    let room = canonical_text(alloc, pattern, mode)?.as_str().len();
+    let mut all_fails = List::new(alloc);
+    all_fails.push(fails)?;
+    let mut sink = MemorySink::new(alloc, room, all_fails, step)?;
+    let end = match write_canonical(&mut sink, pattern, mode) {
+        Ok(()) => "",
+        Err(Failed) => "!",
+    };
+    let text = str::from_utf8(sink.bytes()).ok().ok_or("no text")?;
+    Ok(format!(in alloc; "{text}{end}")?)
+}
+
+const IN_ANY_MODE: &str = r"terms U+FFFFFFFF => \u{FFFFFFFF}
+terms Null:A => A
+terms ControlLetter:U+1F => \x1F
+terms a{5,2} => a{5,2}
+terms a** => a**
+none => 
+terms (?0-F8:a) => (?:a)";
+
+const LEGACY: &str = r#"terms 😀 => \u{1F600}
+terms U+D83D U+DE00 => \uD83D\uDE00
+punctuation => \^\$\\\.\*\+\?\(\)\[\]\{\}\|\/&-!#%,:;<=>@`~"'_
+[punctuation] => [\^\$\\\.\*\+\?\(\)\[\]\{\}\|\/&\-!#%,:;<=>@`~"'_]
+read ^$\b\B\A\z\Z\d\D\s\S\w\W(?=.)(?!.)(?<=.)(?<!.) => ^$\b\B\A\z\Z\d\D\s\S\w\W(?=.)(?!.)(?<=.)(?<!.)
+terms \1 9 9 => \1\x399
+terms \1 \1 9 => \1\1\x39
+front \1.9() => \1.9
+terms \1 9* => \1\x39*
+front \1*9() => \1*9
+front \1[9]() => \1[9]
+front \k<n>9(?<n>) => \k<n>9
+read (\1)9 => (\1)9
+read \1(9) => \1(9)"#;
+
+const LEGACY_VALUES: &str =
+    "values => \\x00\\x08\\t\\n\\v\\f\\r\\x0E\\x1F !&-\\/9a~\\x7F\\x9F\u{A0}\u{2027}\\u2028\\u2029\u{D7FF}\\uD800\\uDFFF\u{E000}\u{FFFF}\\u{10000}\\u{10FFFF}\\u{110000}
+[values] => [\\x00\\x08\\t\\n\\v\\f\\r\\x0E\\x1F !&\\-\\/9a~\\x7F\\x9F\u{A0}\u{2027}\\u2028\\u2029\u{D7FF}\\uD800\\uDFFF\u{E000}\u{FFFF}\\u{10000}\\u{10FFFF}\\u{110000}]";
+
+const UNICODE_OR_SETS: &str = r"terms 😀 => 😀
+terms U+D83D U+DE00 => \u{D83D}\u{DE00}";
+
+const UNICODE: &str =
+    r"read .{0,}.{1,}.{0,1}.{2,2}.{2,3}.{2,}.{0,0}.{1,1}.{0,}?.{0,1}? => .*.+.?.{2}.{2,3}.{2,}.{0}.{1}.*?.??
+terms .{3,2} .{10,18446744073709551615}? => .{3,2}.{10,18446744073709551615}?
+read (.)(?<größe>.)(?:.) => (.)(?<größe>.)(?:.)
+read (?i-ms:.) => (?i-ms:.)
+read (?-s:.) => (?-s:.)
+read (?ims:.) => (?ims:.)
+read (?is-m:.) => (?is-m:.)
+terms (?B-8:.) => (?im:.)
+terms (?0-0:.) => (?:.)
+front \1|9||() => \1|9||
+read a => a
+read \x41\u{1F600} => A😀
+read a|b||(?:|c) => a|b||(?:|c)
+read (?<n>x{1,}){2,2}?\k<n>\1\x32 => (?<n>x+){2}?\k<n>\1\x32
+read (?i-s:(?=.)(?<!\/)) => (?i-s:(?=.)(?<!\/))
+read [^a-z\d\-]*\p{General_Category=Lu}\P{L}+? => [^a-z\d\-]*\p{Lu}\P{L}+?
+read ((((((((((d)))))))))){0,} => ((((((((((d))))))))))*";
+
+const UNICODE_VALUES: &str =
+    "values => \\x00\\x08\\t\\n\\v\\f\\r\\x0E\\x1F !&-\\/9a~\\x7F\\x9F\u{A0}\u{2027}\\u2028\\u2029\u{D7FF}\\u{D800}\\u{DFFF}\u{E000}\u{FFFF}\u{10000}\u{10FFFF}\\u{110000}
+[values] => [\\x00\\x08\\t\\n\\v\\f\\r\\x0E\\x1F !&\\-\\/9a~\\x7F\\x9F\u{A0}\u{2027}\\u2028\\u2029\u{D7FF}\\u{D800}\\u{DFFF}\u{E000}\u{FFFF}\u{10000}\u{10FFFF}\\u{110000}]";
+
+const SETS: &str = r#"punctuation => \^\$\\\.\*\+\?\(\)\[\]\{\}\|\/&-!#%,:;<=>@`~"'_
+[punctuation] => [\^\$\\\.\*\+\?\(\)\[\]\{\}\|\/\&\-\!\#\%\,\:\;\<\=\>\@\`\~"'_]
+terms \p{L} => \p{L}
+read \P{Script=Greek} => \P{Script=Greek}
+read \p{General_Category=Lu} => \p{Lu}
+read \P{General_Category=Lu} => \P{Lu}
+terms \p{General_Category} => \p{General_Category}
+read \p{gc=Lu} => \p{gc=Lu}
+union [a-z\d\p{L}\-[]\q{a|bc|}] => [^a-z\d\p{L}\-[]\q{a|bc|}]
+intersection [a-z\d\p{L}\-[]\q{a|bc|}] => [^a-z&&\d&&\p{L}&&\-&&[]&&\q{a|bc|}]
+subtraction [a-z\d\p{L}\-[]\q{a|bc|}] => [^a-z--\d--\p{L}--\---[]--\q{a|bc|}]"#;
+
+const SETS_VALUES: &str =
+    "values => \\x00\\x08\\t\\n\\v\\f\\r\\x0E\\x1F !&-\\/9a~\\x7F\\x9F\u{A0}\u{2027}\\u2028\\u2029\u{D7FF}\\u{D800}\\u{DFFF}\u{E000}\u{FFFF}\u{10000}\u{10FFFF}\\u{110000}
+[values] => [\\x00\\x08\\t\\n\\v\\f\\r\\x0E\\x1F \\!\\&\\-\\/9a\\~\\x7F\\x9F\u{A0}\u{2027}\\u2028\\u2029\u{D7FF}\\u{D800}\\u{DFFF}\u{E000}\u{FFFF}\u{10000}\u{10FFFF}\\u{110000}]";
+
+/// Compares what all printers of canonical spellings write.
+fn all_agree(alloc: Global, mode: Mode, rows: &str) -> Result<(), Fail> {
+    agree(alloc, &Printer::CanonicalText(mode), rows)?;
+    agree(alloc, &Printer::AppendCanonical(mode), rows)?;
+    for step in [1, 2, 3, 99] {
+        let fails = 0;
+        agree(alloc, &Printer::WriteCanonical { mode, step, fails }, rows)?;
+    }
+    Ok(())
 }
 
 #[test]
-fn alternatives_stand_between_bars(rt: HostRuntime) -> Result<(), Fail> {
-    agree(rt.alloc(), &UNICODE, "1|9|| => \\1|9||")
+fn canonical_spellings(rt: HostRuntime) -> Result<(), Fail> {
+    for (mode, rows) in [
+        (Mode::Legacy, IN_ANY_MODE),
+        (Mode::Legacy, LEGACY),
+        (Mode::Legacy, LEGACY_VALUES),
+        (Mode::Unicode, IN_ANY_MODE),
+        (Mode::Unicode, UNICODE_OR_SETS),
+        (Mode::Unicode, UNICODE),
+        (Mode::Unicode, UNICODE_VALUES),
+        (Mode::Sets, IN_ANY_MODE),
+        (Mode::Sets, UNICODE_OR_SETS),
+        (Mode::Sets, SETS),
+        (Mode::Sets, SETS_VALUES),
+    ] {
+        all_agree(rt.alloc(), mode, rows)?;
+    }
+    Ok(())
+}
+
+const DISPLAYED: &str = r"terms U+FFFFFFFF => \u{FFFFFFFF}
+terms Null:A => \0
+terms ControlLetter:U+1F => \x1F
+terms a{5,2} => a{5,2}
+terms a** => a**
+none => 
+terms (?0-F8:a) => (?:a)
+terms 😀 => 😀
+terms U+D83D U+DE00 => 😀
+read ^$\b\B\A\z\Z => ^$\b\B\A\z\Z
+read \d\D\s\S\w\W => \d\D\s\S\w\W
+read (?=.)(?!.)(?<=.)(?<!.) => (?=.)(?!.)(?<=.)(?<!.)
+read (.)(?<größe>.)(?:.) => (.)(?<größe>.)(?:.)
+terms \k<n> \1 9 => \k<n>\19
+front \1*9*[9]() => \1*9*[9]
+front \1|9||() => \1|9||";
+
+#[test]
+fn displayed_texts(rt: HostRuntime) -> Result<(), Fail> {
+    agree(rt.alloc(), &Printer::DisplayText, DISPLAYED)?;
+    agree(rt.alloc(), &Printer::Display, DISPLAYED)
+}
+
+/// What is taken of a pattern where the call to the sink of the row's number fails, from 0 on. Each takes a byte.
+const FAILING: &str = r"read a(?:b|c)d{2} => a(?:b|c)d{2}
+read a(?:b|c)d{2} => !
+read a(?:b|c)d{2} => a!
+read a(?:b|c)d{2} => a(!
+read a(?:b|c)d{2} => a(?!
+read a(?:b|c)d{2} => a(?:!
+read a(?:b|c)d{2} => a(?:b!
+read a(?:b|c)d{2} => a(?:b|!
+read a(?:b|c)d{2} => a(?:b|c!
+read a(?:b|c)d{2} => a(?:b|c)!
+read a(?:b|c)d{2} => a(?:b|c)d!
+read a(?:b|c)d{2} => a(?:b|c)d{!
+read a(?:b|c)d{2} => a(?:b|c)d{2!
+read a(?:b|c)d{2} => a(?:b|c)d{2}";
+
+#[test]
+fn a_failing_write_is_told(rt: HostRuntime) -> Result<(), Fail> {
+    let mode = Mode::Unicode;
+    for (fails, row) in FAILING.lines().enumerate() {
+        let step = 1;
+        agree(
+            rt.alloc(),
+            &Printer::WriteCanonical { mode, step, fails },
+            row,
+        )?;
+    }
+    Ok(())
 }

@@ -1,17 +1,15 @@
-use rx_rows::{Call, agree, short};
+use crate::trees::read;
+use rx_rows::{Call, agree};
 use rx_tools::support::{has_buffer_boundaries, has_buffer_boundaries_in};
-use rx_tools::{Form, Options, read_pattern};
 use std::alloc::Global;
 use std::test::Fail;
 
-/// Asked is a pattern under `u`. The answers of both calls: that without memory, and that without a deep stack.
-#[derive(Clone, Copy)]
+/// The answers of both calls about a pattern: that without memory, and that without a deep stack.
 struct BufferCall;
 
 impl Call for BufferCall {
     fn answer(&self, alloc: Global, asked: &str) -> Result<String, Fail> {
-        let options = Options::default();
-        let (pattern, _) = read_pattern(alloc, Form::Literal, short(asked)?, Some("u"), options)?;
+        let pattern = read(alloc, asked)?;
         let alone = has_buffer_boundaries(&pattern);
         let among = has_buffer_boundaries_in(alloc, &pattern)?;
         Ok(format!(in alloc; "{alone} {among}")?)

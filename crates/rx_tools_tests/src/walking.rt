@@ -1,34 +1,35 @@
-use rx_ast::{Pattern, RegExpAstKind};
-use rx_base::List;
-use rx_rows::{Call, agree, short};
+use crate::trees::read;
+use rx_ast::RegExpAstKind;
+use rx_rows::{Call, agree};
 use rx_tools::visit::*;
-use rx_tools::{Form, Options, read_pattern};
 use std::alloc::Global;
 use std::test::Fail;
 
-/// Which nodes a visitor descends into.
-#[derive(Clone, Copy, PartialEq, Eq)]
-enum Descent {
-    All,
-    None,
-}
-
-/// Writes the name of each node that it enters, and counts what it enters and leaves.
+/// Writes the name of each node that it enters, and descends into all nodes or into none.
 #[derive(Drop)]
 struct Names {
-    names: List<&'static str>,
-    descent: Descent,
-    left: usize,
-    is_short: bool,
+    names: String,
+    descends: bool,
+
+    /// How many nodes were entered and not left.
+    open: usize,
 }
 
 impl Names {
-    fn new(alloc: Global, descent: Descent) -> Names {
+    fn new(alloc: Global, descends: bool) -> Names {
         Names {
-            names: List::new(alloc),
-            descent,
-            left: 0,
-            is_short: false,
+            names: String::new(alloc),
+            descends,
+            open: 0,
+        }
+    }
+
+    /// The names, where each node that was entered was left.
+    fn closed(&self) -> Option<&str> {
+        if self.open == 0 {
+            Some(self.names.as_str())
+        } else {
+            None
         }
     }
 }
@@ -39,42 +40,44 @@ impl Visit for Names {
     ghost left = { λ _ _ _. Unit {0} };
 
     fn enter_node(&mut self, kind: RegExpAstKind<'_>) -> bool {
-        self.is_short = self.is_short || self.names.push(name_of(kind)).is_err();
-        self.descent == Descent::All
+        let _ = self.names.push_str(name_of(kind));
+        self.open = self.open.wrapping_add(1);
+        self.descends
     }
 
     fn leave_node(&mut self, _kind: RegExpAstKind<'_>) {
-        self.left = self.left.saturating_add(1);
+        self.open = self.open.wrapping_sub(1);
     }
 }
 
+/// The name of a node, and a blank.
 fn name_of(kind: RegExpAstKind<'_>) -> &'static str {
     match kind {
-        RegExpAstKind::Pattern(_) => "Pattern",
-        RegExpAstKind::Disjunction(_) => "Disjunction",
-        RegExpAstKind::Alternative(_) => "Alternative",
-        RegExpAstKind::Term(_) => "Term",
-        RegExpAstKind::LookAroundAssertion(_) => "LookAroundAssertion",
-        RegExpAstKind::Quantifier(_) => "Quantifier",
-        RegExpAstKind::CapturingGroup(_) => "CapturingGroup",
-        RegExpAstKind::IgnoreGroup(_) => "IgnoreGroup",
-        RegExpAstKind::BoundaryAssertion(_) => "BoundaryAssertion",
-        RegExpAstKind::Character(_) => "Character",
-        RegExpAstKind::Dot(_) => "Dot",
-        RegExpAstKind::CharacterClassEscape(_) => "CharacterClassEscape",
-        RegExpAstKind::UnicodePropertyEscape(_) => "UnicodePropertyEscape",
-        RegExpAstKind::CharacterClass(_) => "CharacterClass",
-        RegExpAstKind::CharacterClassContents(_) => "CharacterClassContents",
-        RegExpAstKind::CharacterClassRange(_) => "CharacterClassRange",
-        RegExpAstKind::CharacterClassStringDisjunction(_) => "CharacterClassStringDisjunction",
-        RegExpAstKind::CharacterClassString(_) => "CharacterClassString",
-        RegExpAstKind::IndexedReference(_) => "IndexedReference",
-        RegExpAstKind::NamedReference(_) => "NamedReference",
+        RegExpAstKind::Pattern(_) => "Pattern ",
+        RegExpAstKind::Disjunction(_) => "Disjunction ",
+        RegExpAstKind::Alternative(_) => "Alternative ",
+        RegExpAstKind::Term(_) => "Term ",
+        RegExpAstKind::LookAroundAssertion(_) => "LookAroundAssertion ",
+        RegExpAstKind::Quantifier(_) => "Quantifier ",
+        RegExpAstKind::CapturingGroup(_) => "CapturingGroup ",
+        RegExpAstKind::IgnoreGroup(_) => "IgnoreGroup ",
+        RegExpAstKind::BoundaryAssertion(_) => "BoundaryAssertion ",
+        RegExpAstKind::Character(_) => "Character ",
+        RegExpAstKind::Dot(_) => "Dot ",
+        RegExpAstKind::CharacterClassEscape(_) => "CharacterClassEscape ",
+        RegExpAstKind::UnicodePropertyEscape(_) => "UnicodePropertyEscape ",
+        RegExpAstKind::CharacterClass(_) => "CharacterClass ",
+        RegExpAstKind::CharacterClassContents(_) => "CharacterClassContents ",
+        RegExpAstKind::CharacterClassRange(_) => "CharacterClassRange ",
+        RegExpAstKind::CharacterClassStringDisjunction(_) => "CharacterClassStringDisjunction ",
+        RegExpAstKind::CharacterClassString(_) => "CharacterClassString ",
+        RegExpAstKind::IndexedReference(_) => "IndexedReference ",
+        RegExpAstKind::NamedReference(_) => "NamedReference ",
     }
 }
 
 /// Walks over a node by the call for its type.
-fn walk<V: Visit>(visitor: &mut V, node: RegExpAstKind<'_>) {
+fn walk(visitor: &mut Names, node: RegExpAstKind<'_>) {
     match node {
         RegExpAstKind::Pattern(it) => walk_pattern(visitor, it),
         RegExpAstKind::Disjunction(it) => walk_disjunction(visitor, it),
@@ -101,88 +104,43 @@ fn walk<V: Visit>(visitor: &mut V, node: RegExpAstKind<'_>) {
     }
 }
 
-/// Whether each of these is the next of those.
-fn begins_with(names: &[&'static str], front: &[&'static str]) -> bool {
-    front.len() <= names.len()
-        && names
-            .iter()
-            .zip(front)
-            .all(|(name, wanted)| *name == *wanted)
-}
-
-/// Whether a visitor that descends met the first of these names, and left each node that it entered.
-fn met_all(visitor: &Names, names: &[&'static str]) -> bool {
-    visitor.left == visitor.names.len() && begins_with(names, visitor.names.as_slice())
-}
-
-/// Walks over a node by its own call, with a visitor that descends and with one that does not. These are the names of the node and of those after it.
-fn walk_agrees(alloc: Global, node: RegExpAstKind<'_>, names: &[&'static str]) -> Result<(), Fail> {
-    let mut all = Names::new(alloc, Descent::All);
+/// Walks over a node by its own call, with a visitor that descends and with one that does not. Given are the names of the node and of all nodes after it; the
+/// answer is the names of those after it.
+fn after<'a>(alloc: Global, node: RegExpAstKind<'_>, names: &'a str) -> Option<&'a str> {
+    let mut all = Names::new(alloc, true);
     walk(&mut all, node);
-    if !met_all(&all, names) {
-        return Err(Fail::new(name_of(node)));
-    }
-    let mut one = Names::new(alloc, Descent::None);
+    names.strip_prefix(all.closed()?)?;
+    let mut one = Names::new(alloc, false);
     walk(&mut one, node);
-    if one.left != 1 || !met_all(&one, names) {
-        return Err(Fail::new(name_of(node)));
-    }
-    Ok(())
+    names.strip_prefix(one.closed()?)
 }
 
-/// Walks over each node. The names are those of all nodes.
-fn walks_agree(
-    alloc: Global,
-    nodes: &[RegExpAstKind<'_>],
-    names: &[&'static str],
-) -> Result<(), Fail> {
-    for (i, node) in nodes.iter().enumerate() {
-        if i > names.len() {
-            return Err(Fail::new("more nodes than names"));
+/// Whether these are the names of the nodes, one after the other.
+fn walks_agree(alloc: Global, nodes: &[RegExpAstKind<'_>], names: &str) -> bool {
+    let mut left = names;
+    for node in nodes {
+        match after(alloc, *node, left) {
+            Some(names) => left = names,
+            None => return false,
         }
-        walk_agrees(alloc, *node, &names[i..])?;
     }
-    Ok(())
+    left.is_empty()
 }
 
-fn joined(alloc: Global, names: &[&'static str]) -> Result<String, Fail> {
-    let mut text = String::new(alloc);
-    let mut before = "";
-    for name in names {
-        text.push_str(before)?;
-        text.push_str(name)?;
-        before = " ";
-    }
-    Ok(text)
-}
-
-/// The names of the nodes of a pattern under `v`, in the order in which a walk enters them.
-#[derive(Clone, Copy)]
+/// The names of the nodes of a pattern, in the order in which a walk enters them.
 struct WalkCall;
-
-impl WalkCall {
-    fn names_of(&self, alloc: Global, pattern: &Pattern) -> Result<String, Fail> {
-        let mut whole = Names::new(alloc, Descent::All);
-        walk_pattern(&mut whole, pattern);
-        let names = whole.names.as_slice();
-        let nodes = nodes_in_order(alloc, pattern)?;
-        walks_agree(alloc, nodes.as_slice(), names)?;
-        let mut heap = Names::new(alloc, Descent::All);
-        walk_pattern_in(alloc, &mut heap, pattern)?;
-        if heap.left != nodes.len() || !met_all(&heap, names) {
-            return Err(Fail::new("the walk by a loop"));
-        }
-        joined(alloc, names)
-    }
-}
 
 impl Call for WalkCall {
     fn answer(&self, alloc: Global, asked: &str) -> Result<String, Fail> {
-        let options = Options::default();
-        match read_pattern(alloc, Form::Literal, short(asked)?, Some("v"), options) {
-            Ok((pattern, _)) => self.names_of(alloc, &pattern),
-            Err(fault) => Err(Fail::from(fault)),
+        let pattern = read(alloc, asked)?;
+        let nodes = nodes_in_order(alloc, &pattern)?;
+        let mut heap = Names::new(alloc, true);
+        walk_pattern_in(alloc, &mut heap, &pattern)?;
+        let names = heap.closed().ok_or("a node that is not left")?;
+        if !walks_agree(alloc, nodes.as_slice(), names) {
+            return Err(Fail::new("the walks over single nodes"));
         }
+        Ok(String::from_str(alloc, names.trim_end())?)
     }
 }
 
