@@ -1,69 +1,92 @@
 use crate::tokens::tokens_of;
 use rx_ast::{Alternative, Disjunction, Dot, IgnoreGroup, Modifier, Modifiers, Pattern, Term};
-use rx_base::{List, Span};
+use rx_base::{List, OutOfMemory, Span};
 use rx_rows::{Call, agree};
 use std::alloc::Global;
 use std::test::Fail;
 
-/// A span that is written as in `1..4`.
-fn span_of(written: &str) -> Result<Span, Fail> {
-    let (start, end) = written.split_once("..").ok_or("no span")?;
-    let start = start.parse::<u32>().map_err(|_| "no start")?;
-    let end = end.parse::<u32>().map_err(|_| "no end")?;
-    Ok(Span { start, end })
-}
+/// The tokens of a pattern whose spans are given: its own, and those of its disjunction, its alternative and the terms in it. A term is a dot, or a group with
+/// modifiers whose body is empty: its own span, that of its modifiers in parentheses, and that of its body.
+struct ByHand;
 
-/// Spans with a blank between.
-fn spans_of(alloc: Global, written: &str) -> Result<List<Span>, Fail> {
-    let mut spans = List::new(alloc);
-    for word in written.split(' ') {
-        spans.push(span_of(word)?)?;
+impl Call for ByHand {
+    fn answer(&self, alloc: Global, asked: &str) -> Result<String, Fail> {
+        let ([span, body, alternative], words) = spans_of(asked).ok_or("no three spans")?;
+        let body = disjunction_of(alloc, body, alternative, terms_of(alloc, words)?)?;
+        tokens_of(alloc, &Pattern { span, body })
     }
-    Ok(spans)
 }
 
-/// A pattern of one alternative with these terms.
-fn pattern_of(
+/// The spans of a pattern, its disjunction and its alternative, and what stands after them.
+fn spans_of(asked: &str) -> Option<([Span; 3], &str)> {
+    let (pattern, rest) = asked.split_once(' ')?;
+    let (body, rest) = rest.split_once(' ')?;
+    let (alternative, words) = rest.split_once(' ').unwrap_or((rest, ""));
+    let spans = [span_of(pattern)?, span_of(body)?, span_of(alternative)?];
+    Some((spans, words))
+}
+
+/// A span that is written as in `1..4`.
+fn span_of(written: &str) -> Option<Span> {
+    let (start, end) = written.split_once("..")?;
+    let start = start.parse::<u32>().ok()?;
+    let end = end.parse::<u32>().ok()?;
+    Some(Span { start, end })
+}
+
+fn terms_of(alloc: Global, words: &str) -> Result<List<Term>, Fail> {
+    let mut terms = List::new(alloc);
+    for word in words.split_ascii_whitespace() {
+        terms.push(term_of(alloc, word)?)?;
+    }
+    Ok(terms)
+}
+
+fn term_of(alloc: Global, word: &str) -> Result<Term, Fail> {
+    match word.split_once('(') {
+        Some((span, parts)) => {
+            let (modifiers, body) = parts.split_once(')').ok_or("no body")?;
+            let span = span_of(span).ok_or("no span of a group")?;
+            let modifiers = span_of(modifiers).ok_or("no span of modifiers")?;
+            let body = span_of(body).ok_or("no span of a body")?;
+            Ok(group_of(alloc, span, modifiers, body)?)
+        }
+        None => Ok(Term::Dot(Dot {
+            span: span_of(word).ok_or("no span of a dot")?,
+        })),
+    }
+}
+
+fn group_of(alloc: Global, span: Span, modifiers: Span, body: Span) -> Result<Term, OutOfMemory> {
+    let group = IgnoreGroup {
+        span,
+        modifiers: Some(Modifiers {
+            span: modifiers,
+            enabling: Modifier::I,
+            disabling: Modifier::empty(),
+        }),
+        body: disjunction_of(alloc, body, body, List::new(alloc))?,
+    };
+    Ok(Term::IgnoreGroup(Box::new(alloc, group)?))
+}
+
+/// A disjunction of one alternative with these terms.
+fn disjunction_of(
     alloc: Global,
     span: Span,
-    body: Span,
     alternative: Span,
     terms: List<Term>,
-) -> Result<Pattern, Fail> {
-    let mut alternatives = List::new(alloc);
-    alternatives.push(Alternative {
+) -> Result<Disjunction, OutOfMemory> {
+    let mut body = List::new(alloc);
+    body.push(Alternative {
         span: alternative,
         body: terms,
     })?;
-    Ok(Pattern {
-        span,
-        body: Disjunction {
-            span: body,
-            body: alternatives,
-        },
-    })
-}
-
-/// The tokens of a pattern whose spans are given: its own, and those of its disjunction, its alternative and the dots in it.
-struct OfDots;
-
-impl Call for OfDots {
-    fn answer(&self, alloc: Global, asked: &str) -> Result<String, Fail> {
-        let spans = spans_of(alloc, asked)?;
-        let [span, body, alternative, dots @ ..] = spans.as_slice() else {
-            return Err(Fail::new("less than three spans"));
-        };
-        let mut terms = List::new(alloc);
-        for dot in dots {
-            terms.push(Term::Dot(Dot { span: *dot }))?;
-        }
-        let pattern = pattern_of(alloc, *span, *body, *alternative, terms)?;
-        tokens_of(alloc, &pattern)
-    }
+    Ok(Disjunction { span, body })
 }
 
 #[test]
-fn dots_by_hand(rt: HostRuntime) -> Result<(), Fail> {
+fn trees_by_hand(rt: HostRuntime) -> Result<(), Fail> {
     let rows = "0..5 1..4 1..3 2..3 => 0..1=other 1..2=other 2..3=dot 3..4=bar 4..5=other
 7..9 7..9 7..9 7..8 8..9 => 7..8=dot 8..9=dot
 0..2 0..2 0..2 0..0 0..2 2..2 => 0..2=dot
@@ -77,45 +100,14 @@ fn dots_by_hand(rt: HostRuntime) -> Result<(), Fail> {
 0..3 0..3 0..3 2..3 0..1 => not nested
 0..3 0..3 0..3 2..1 => not nested
 0..3 0..3 0..3 1..4 => not nested
-1..3 1..3 1..3 0..2 => not nested";
-    agree(rt.alloc(), &OfDots, rows)
-}
-
-/// The tokens of a pattern that is one group with modifiers, whose spans are given: that of the group, of its modifiers and of its body, an empty alternative.
-struct OfGroup;
-
-impl Call for OfGroup {
-    fn answer(&self, alloc: Global, asked: &str) -> Result<String, Fail> {
-        let spans = spans_of(alloc, asked)?;
-        let [span, modifiers, body] = spans.as_slice() else {
-            return Err(Fail::new("not three spans"));
-        };
-        let inner = pattern_of(alloc, *body, *body, *body, List::new(alloc))?;
-        let group = IgnoreGroup {
-            span: *span,
-            modifiers: Some(Modifiers {
-                span: *modifiers,
-                enabling: Modifier::I,
-                disabling: Modifier::empty(),
-            }),
-            body: inner.body,
-        };
-        let mut terms = List::new(alloc);
-        terms.push(Term::IgnoreGroup(Box::new(alloc, group).map_err(|_| "no memory")?))?;
-        let pattern = pattern_of(alloc, *span, *span, *span, terms)?;
-        tokens_of(alloc, &pattern)
-    }
-}
-
-#[test]
-fn modifiers_stand_before_the_body(rt: HostRuntime) -> Result<(), Fail> {
-    let rows = "0..8 2..3 4..7 => 0..2=group 2..3=modifier 3..4=group 4..7=other 7..8=group
-0..8 2..4 4..8 => 0..2=group 2..4=modifier 4..8=other
-0..8 4..4 4..4 => 0..8=group
-0..8 4..5 4..7 => not nested
-0..8 7..8 4..7 => not nested
-1..8 0..3 4..7 => not nested
-0..8 3..2 4..7 => not nested
-0..8 2..9 9..9 => not nested";
-    agree(rt.alloc(), &OfGroup, rows)
+1..3 1..3 1..3 0..2 => not nested
+0..8 0..8 0..8 0..8(2..3)4..7 => 0..2=group 2..3=modifier 3..4=group 4..7=other 7..8=group
+0..8 0..8 0..8 0..8(2..4)4..8 => 0..2=group 2..4=modifier 4..8=other
+0..8 0..8 0..8 0..8(4..4)4..4 => 0..8=group
+0..8 0..8 0..8 0..8(4..5)4..7 => not nested
+0..8 0..8 0..8 0..8(7..8)4..7 => not nested
+1..8 1..8 1..8 1..8(0..3)4..7 => not nested
+0..8 0..8 0..8 0..8(3..2)4..7 => not nested
+0..8 0..8 0..8 0..8(2..9)9..9 => not nested";
+    agree(rt.alloc(), &ByHand, rows)
 }
