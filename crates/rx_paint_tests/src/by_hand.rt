@@ -5,69 +5,61 @@ use rx_rows::{Call, agree};
 use std::alloc::Global;
 use std::test::Fail;
 
-/// The tokens of a pattern whose spans are given: its own, and those of its disjunction, its alternative and the terms in it. A term is a dot, or a group with
-/// modifiers whose body is empty: its own span, that of its modifiers in parentheses, and that of its body.
+/// The tokens of a pattern whose spans are given, each as in `1..4`: its own, and those of its disjunction, its alternative and the terms in it. A term is a
+/// dot, or a group with modifiers: its own span, that of its modifiers in parentheses, and that of its empty body.
 struct ByHand;
 
 impl Call for ByHand {
     fn answer(&self, alloc: Global, asked: &str) -> Result<String, Fail> {
-        let ([span, body, alternative], words) = spans_of(asked).ok_or("no three spans")?;
-        let body = disjunction_of(alloc, body, alternative, terms_of(alloc, words)?)?;
-        tokens_of(alloc, &Pattern { span, body })
+        tokens_of(alloc, &pattern_of(alloc, asked)?)
     }
 }
 
-/// The spans of a pattern, its disjunction and its alternative, and what stands after them.
-fn spans_of(asked: &str) -> Option<([Span; 3], &str)> {
-    let (pattern, rest) = asked.split_once(' ')?;
-    let (body, rest) = rest.split_once(' ')?;
-    let (alternative, words) = rest.split_once(' ').unwrap_or((rest, ""));
-    let spans = [span_of(pattern)?, span_of(body)?, span_of(alternative)?];
-    Some((spans, words))
+/// The span of this number in a row.
+fn span_at(row: &str, number: usize) -> Span {
+    match row.as_bytes().chunks(5).nth(number) {
+        Some([start, b'.', b'.', end, ..]) => Span {
+            start: u32::from(start.wrapping_sub(b'0')),
+            end: u32::from(end.wrapping_sub(b'0')),
+        },
+        _ => Span::empty(0),
+    }
 }
 
-/// A span that is written as in `1..4`.
-fn span_of(written: &str) -> Option<Span> {
-    let (start, end) = written.split_once("..")?;
-    let start = start.parse::<u32>().ok()?;
-    let end = end.parse::<u32>().ok()?;
-    Some(Span { start, end })
+fn pattern_of(alloc: Global, row: &str) -> Result<Pattern, OutOfMemory> {
+    let terms = if row.contains('(') {
+        group_of(alloc, row)?
+    } else {
+        dots_of(alloc, row)?
+    };
+    let body = disjunction_of(alloc, span_at(row, 1), span_at(row, 2), terms)?;
+    let span = span_at(row, 0);
+    Ok(Pattern { span, body })
 }
 
-fn terms_of(alloc: Global, words: &str) -> Result<List<Term>, Fail> {
+fn dots_of(alloc: Global, row: &str) -> Result<List<Term>, OutOfMemory> {
     let mut terms = List::new(alloc);
-    for word in words.split_ascii_whitespace() {
-        terms.push(term_of(alloc, word)?)?;
+    for number in 3..row.len().div_ceil(5) {
+        let span = span_at(row, number);
+        terms.push(Term::Dot(Dot { span }))?;
     }
     Ok(terms)
 }
 
-fn term_of(alloc: Global, word: &str) -> Result<Term, Fail> {
-    match word.split_once('(') {
-        Some((span, parts)) => {
-            let (modifiers, body) = parts.split_once(')').ok_or("no body")?;
-            let span = span_of(span).ok_or("no span of a group")?;
-            let modifiers = span_of(modifiers).ok_or("no span of modifiers")?;
-            let body = span_of(body).ok_or("no span of a body")?;
-            Ok(group_of(alloc, span, modifiers, body)?)
-        }
-        None => Ok(Term::Dot(Dot {
-            span: span_of(word).ok_or("no span of a dot")?,
-        })),
-    }
-}
-
-fn group_of(alloc: Global, span: Span, modifiers: Span, body: Span) -> Result<Term, OutOfMemory> {
+fn group_of(alloc: Global, row: &str) -> Result<List<Term>, OutOfMemory> {
+    let body = span_at(row, 5);
     let group = IgnoreGroup {
-        span,
+        span: span_at(row, 3),
         modifiers: Some(Modifiers {
-            span: modifiers,
+            span: span_at(row, 4),
             enabling: Modifier::I,
             disabling: Modifier::empty(),
         }),
         body: disjunction_of(alloc, body, body, List::new(alloc))?,
     };
-    Ok(Term::IgnoreGroup(Box::new(alloc, group)?))
+    let mut terms = List::new(alloc);
+    terms.push(Term::IgnoreGroup(Box::new(alloc, group)?))?;
+    Ok(terms)
 }
 
 /// A disjunction of one alternative with these terms.

@@ -24,14 +24,20 @@ pub fn tree(alloc: Global, asked: &str) -> Result<Pattern, Fail> {
     match how {
         "read" => read(alloc, what),
         "front" => front(alloc, what),
-        "terms" => Ok(terms(alloc, what)?),
-        "values" => Ok(terms(alloc, VALUES)?),
-        "punctuation" => Ok(terms(alloc, PUNCTUATION)?),
-        "[values]" => Ok(class(alloc, VALUES)?),
-        "[punctuation]" => Ok(class(alloc, PUNCTUATION)?),
         "union" => negative(alloc, CharacterClassContentsKind::Union, what),
         "intersection" => negative(alloc, CharacterClassContentsKind::Intersection, what),
         "subtraction" => negative(alloc, CharacterClassContentsKind::Subtraction, what),
+        _ => Ok(by_hand(alloc, how, what)?),
+    }
+}
+
+fn by_hand(alloc: Global, how: &str, what: &str) -> Result<Pattern, OutOfMemory> {
+    match how {
+        "terms" => terms(alloc, what),
+        "values" => terms(alloc, VALUES),
+        "punctuation" => terms(alloc, PUNCTUATION),
+        "[values]" => class(alloc, VALUES),
+        "[punctuation]" => class(alloc, PUNCTUATION),
         _ => Ok(pattern_of(List::new(alloc))),
     }
 }
@@ -59,19 +65,24 @@ fn front(alloc: Global, text: &str) -> Result<Pattern, Fail> {
 
 /// The class that a pattern is, as a negative one of this kind.
 fn negative(alloc: Global, kind: CharacterClassContentsKind, text: &str) -> Result<Pattern, Fail> {
-    let mut class = class_of(alloc, &read(alloc, text)?).ok_or("no class")?;
-    class.negative = true;
-    class.kind = kind;
-    Ok(class_alone(alloc, class)?)
+    let pattern = read(alloc, text)?;
+    Ok(with_kind(alloc, kind, &pattern).ok_or("no class")?)
 }
 
-/// A copy of the class that a pattern begins with.
-fn class_of(alloc: Global, pattern: &Pattern) -> Option<CharacterClass> {
+/// The same of a pattern that is read, or none where it begins with no class.
+fn with_kind(
+    alloc: Global,
+    kind: CharacterClassContentsKind,
+    pattern: &Pattern,
+) -> Option<Pattern> {
     let alternative = pattern.body.body.get(0)?;
     let Term::CharacterClass(class) = alternative.body.get(0)? else {
         return None;
     };
-    (**class).clone(alloc).ok()
+    let mut class = (**class).clone(alloc).ok()?;
+    class.negative = true;
+    class.kind = kind;
+    class_alone(alloc, class).ok()
 }
 
 fn pattern_of(body: List<Alternative>) -> Pattern {

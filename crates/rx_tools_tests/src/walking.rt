@@ -1,46 +1,45 @@
 use crate::trees::read;
 use rx_ast::RegExpAstKind;
-use rx_rows::{Call, agree};
 use rx_tools::visit::*;
 use std::alloc::Global;
 use std::test::Fail;
 
-/// Writes the name of each node that it enters, and descends into all nodes or into none.
-#[derive(Drop)]
-struct Names {
-    names: String,
+/// Compares the names of the nodes that it enters with those that are due.
+#[derive(Clone, Copy)]
+struct Names<'a> {
+    /// The names of the nodes that are still to be entered, or `?` after a node of another name.
+    due: &'a str,
+
+    /// Whether it descends into the nodes that it enters.
     descends: bool,
 
     /// How many nodes were entered and not left.
     open: usize,
 }
 
-impl Names {
-    fn new(alloc: Global, descends: bool) -> Names {
+impl<'a> Names<'a> {
+    fn new(due: &'a str, descends: bool) -> Names<'a> {
         Names {
-            names: String::new(alloc),
+            due,
             descends,
             open: 0,
         }
     }
 
-    /// The names, where each node that was entered was left.
-    fn closed(&self) -> Option<&str> {
-        if self.open == 0 {
-            Some(self.names.as_str())
-        } else {
-            None
-        }
+    /// The names that are still due, where each node was left that was entered.
+    fn end(self) -> &'a str {
+        if self.open == 0 { self.due } else { "?" }
     }
 }
 
-impl Visit for Names {
+impl Visit for Names<'_> {
     ghost entered = { λ _ _ _ _. Unit {0} };
 
     ghost left = { λ _ _ _. Unit {0} };
 
     fn enter_node(&mut self, kind: RegExpAstKind<'_>) -> bool {
-        let _ = self.names.push_str(name_of(kind));
+        let (name, others) = self.due.split_once(' ').unwrap_or((self.due, ""));
+        self.due = if name == name_of(kind) { others } else { "?" };
         self.open = self.open.wrapping_add(1);
         self.descends
     }
@@ -50,34 +49,33 @@ impl Visit for Names {
     }
 }
 
-/// The name of a node, and a blank.
 fn name_of(kind: RegExpAstKind<'_>) -> &'static str {
     match kind {
-        RegExpAstKind::Pattern(_) => "Pattern ",
-        RegExpAstKind::Disjunction(_) => "Disjunction ",
-        RegExpAstKind::Alternative(_) => "Alternative ",
-        RegExpAstKind::Term(_) => "Term ",
-        RegExpAstKind::LookAroundAssertion(_) => "LookAroundAssertion ",
-        RegExpAstKind::Quantifier(_) => "Quantifier ",
-        RegExpAstKind::CapturingGroup(_) => "CapturingGroup ",
-        RegExpAstKind::IgnoreGroup(_) => "IgnoreGroup ",
-        RegExpAstKind::BoundaryAssertion(_) => "BoundaryAssertion ",
-        RegExpAstKind::Character(_) => "Character ",
-        RegExpAstKind::Dot(_) => "Dot ",
-        RegExpAstKind::CharacterClassEscape(_) => "CharacterClassEscape ",
-        RegExpAstKind::UnicodePropertyEscape(_) => "UnicodePropertyEscape ",
-        RegExpAstKind::CharacterClass(_) => "CharacterClass ",
-        RegExpAstKind::CharacterClassContents(_) => "CharacterClassContents ",
-        RegExpAstKind::CharacterClassRange(_) => "CharacterClassRange ",
-        RegExpAstKind::CharacterClassStringDisjunction(_) => "CharacterClassStringDisjunction ",
-        RegExpAstKind::CharacterClassString(_) => "CharacterClassString ",
-        RegExpAstKind::IndexedReference(_) => "IndexedReference ",
-        RegExpAstKind::NamedReference(_) => "NamedReference ",
+        RegExpAstKind::Pattern(_) => "Pattern",
+        RegExpAstKind::Disjunction(_) => "Disjunction",
+        RegExpAstKind::Alternative(_) => "Alternative",
+        RegExpAstKind::Term(_) => "Term",
+        RegExpAstKind::LookAroundAssertion(_) => "LookAroundAssertion",
+        RegExpAstKind::Quantifier(_) => "Quantifier",
+        RegExpAstKind::CapturingGroup(_) => "CapturingGroup",
+        RegExpAstKind::IgnoreGroup(_) => "IgnoreGroup",
+        RegExpAstKind::BoundaryAssertion(_) => "BoundaryAssertion",
+        RegExpAstKind::Character(_) => "Character",
+        RegExpAstKind::Dot(_) => "Dot",
+        RegExpAstKind::CharacterClassEscape(_) => "CharacterClassEscape",
+        RegExpAstKind::UnicodePropertyEscape(_) => "UnicodePropertyEscape",
+        RegExpAstKind::CharacterClass(_) => "CharacterClass",
+        RegExpAstKind::CharacterClassContents(_) => "CharacterClassContents",
+        RegExpAstKind::CharacterClassRange(_) => "CharacterClassRange",
+        RegExpAstKind::CharacterClassStringDisjunction(_) => "CharacterClassStringDisjunction",
+        RegExpAstKind::CharacterClassString(_) => "CharacterClassString",
+        RegExpAstKind::IndexedReference(_) => "IndexedReference",
+        RegExpAstKind::NamedReference(_) => "NamedReference",
     }
 }
 
 /// Walks over a node by the call for its type.
-fn walk(visitor: &mut Names, node: RegExpAstKind<'_>) {
+fn walk(visitor: &mut Names<'_>, node: RegExpAstKind<'_>) {
     match node {
         RegExpAstKind::Pattern(it) => walk_pattern(visitor, it),
         RegExpAstKind::Disjunction(it) => walk_disjunction(visitor, it),
@@ -104,53 +102,46 @@ fn walk(visitor: &mut Names, node: RegExpAstKind<'_>) {
     }
 }
 
-/// Walks over a node by its own call, with a visitor that descends and with one that does not. Given are the names of the node and of all nodes after it; the
-/// answer is the names of those after it.
-fn after<'a>(alloc: Global, node: RegExpAstKind<'_>, names: &'a str) -> Option<&'a str> {
-    let mut all = Names::new(alloc, true);
-    walk(&mut all, node);
-    names.strip_prefix(all.closed()?)?;
-    let mut one = Names::new(alloc, false);
-    walk(&mut one, node);
-    names.strip_prefix(one.closed()?)
+/// The names that are still due when a node was walked over by its own call.
+fn after<'a>(node: RegExpAstKind<'_>, due: &'a str, descends: bool) -> &'a str {
+    let mut visitor = Names::new(due, descends);
+    walk(&mut visitor, node);
+    visitor.end()
 }
 
-/// Whether these are the names of the nodes, one after the other.
-fn walks_agree(alloc: Global, nodes: &[RegExpAstKind<'_>], names: &str) -> bool {
-    let mut left = names;
+/// Whether these are the names of the nodes, and each walk over one of them meets them from there on: one that descends, and one that does not.
+fn walks_agree(nodes: &[RegExpAstKind<'_>], names: &str) -> bool {
+    let mut due = names;
     for node in nodes {
-        match after(alloc, *node, left) {
-            Some(names) => left = names,
-            None => return false,
+        if after(*node, due, true) == "?" {
+            return false;
         }
+        due = after(*node, due, false);
     }
-    left.is_empty()
+    due.is_empty()
 }
 
-/// The names of the nodes of a pattern, in the order in which a walk enters them.
-struct WalkCall;
-
-impl Call for WalkCall {
-    fn answer(&self, alloc: Global, asked: &str) -> Result<String, Fail> {
-        let pattern = read(alloc, asked)?;
-        let nodes = nodes_in_order(alloc, &pattern)?;
-        let mut heap = Names::new(alloc, true);
-        walk_pattern_in(alloc, &mut heap, &pattern)?;
-        let names = heap.closed().ok_or("a node that is not left")?;
-        if !walks_agree(alloc, nodes.as_slice(), names) {
-            return Err(Fail::new("the walks over single nodes"));
-        }
-        Ok(String::from_str(alloc, names.trim_end())?)
-    }
+/// Whether these are the names of the nodes of a pattern, in the order in which each walk enters them.
+fn are_names(alloc: Global, text: &str, names: &str) -> Result<bool, Fail> {
+    let pattern = read(alloc, text)?;
+    let mut visitor = Names::new(names, true);
+    walk_pattern_in(alloc, &mut visitor, &pattern)?;
+    let nodes = nodes_in_order(alloc, &pattern)?;
+    Ok(visitor.end().is_empty() && walks_agree(nodes.as_slice(), names))
 }
 
-#[test]
-fn walks_enter_nodes_in_the_order_of_the_text(rt: HostRuntime) -> Result<(), Fail> {
-    let rows = "a|. => Pattern Disjunction Alternative Term Character Alternative Term Dot
+const NAMES: &str = "a|. => Pattern Disjunction Alternative Term Character Alternative Term Dot
  => Pattern Disjunction Alternative Term IgnoreGroup Disjunction Alternative
 (?<n>\\d)\\k<n>\\1 => Pattern Disjunction Alternative Term CapturingGroup Disjunction Alternative Term CharacterClassEscape Term NamedReference Term IndexedReference
 (?i:^)*?(?=\\p{L}) => Pattern Disjunction Alternative Term Quantifier Term IgnoreGroup Disjunction Alternative Term BoundaryAssertion Term LookAroundAssertion Disjunction Alternative Term UnicodePropertyEscape
 [a-b\\w\\p{L}] => Pattern Disjunction Alternative Term CharacterClass CharacterClassContents CharacterClassRange Character Character CharacterClassContents CharacterClassEscape CharacterClassContents UnicodePropertyEscape
 [c[d]\\q{ef|g}]h => Pattern Disjunction Alternative Term CharacterClass CharacterClassContents Character CharacterClassContents CharacterClass CharacterClassContents Character CharacterClassContents CharacterClassStringDisjunction CharacterClassString Character Character CharacterClassString Character Term Character";
-    agree(rt.alloc(), &WalkCall, rows)
+
+#[test]
+fn walks_enter_nodes_in_the_order_of_the_text(rt: HostRuntime) -> Result<(), Fail> {
+    for row in NAMES.lines() {
+        let (text, names) = row.split_once(" => ").ok_or("no names")?;
+        assert!(rt; are_names(rt.alloc(), text, names)?, "{text}");
+    }
+    Ok(())
 }
