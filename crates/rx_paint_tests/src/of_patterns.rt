@@ -1,4 +1,5 @@
 use crate::tokens::tokens_of;
+use rx_base::Fault;
 use rx_rows::{Call, agree, short};
 use rx_tools::{Form, Options, read_pattern};
 use std::alloc::Global;
@@ -13,7 +14,8 @@ impl Call for Paint {
         let (flags, text) = (Some(short(flags)?), short(text)?);
         match read_pattern(alloc, Form::Literal, text, flags, Options::default()) {
             Ok((pattern, _)) => tokens_of(alloc, &pattern),
-            Err(fault) => Err(Fail::from(fault)),
+            Err(Fault::Diagnostic(cause)) => Err(Fail::new(cause.name())),
+            Err(Fault::OutOfMemory) => Err(Fail::new("out of memory")),
         }
     }
 }

@@ -1,9 +1,7 @@
 //! What the printers write.
-ghost use Rattle.std.specs.Prelude.{◌<◌};
-
 use crate::trees::tree;
 use rx_ast::Pattern;
-use rx_base::{Failed, List, MemorySink};
+use rx_base::{Failed, List, MemorySink, OutOfMemory};
 use rx_rows::{Call, agree};
 use rx_tools::{Mode, append_canonical, canonical_text, display_text, write_canonical};
 use std::alloc::Global;
@@ -18,43 +16,53 @@ enum Printer {
     AppendCanonical(Mode),
 
     /// To a sink that has room for no more than the spelling and takes so many bytes at a time. The call of this number fails.
-    WriteCanonical {
-        mode: Mode,
-        step: usize,
-        fails: usize,
-    },
+    WriteCanonical { mode: Mode, step: usize, fails: u64 },
     DisplayText,
     Display,
 }
 
 impl Call for Printer {
     fn answer(&self, alloc: Global, asked: &str) -> Result<String, Fail> {
-        let pattern = tree(alloc, asked)?;
+        self.print(alloc, &tree(alloc, asked)?)
+    }
+}
+
+impl Printer {
+    /// What is written of a tree.
+    fn print(&self, alloc: Global, pattern: &Pattern) -> Result<String, Fail> {
         match *self {
             Printer::CanonicalText(mode) => {
-                let text = canonical_text(alloc, &pattern, mode)?;
-                Ok(String::from_str(alloc, text.as_str())?)
+                shown(
+                    alloc,
+                    canonical_text(alloc, pattern, mode)?.as_str().as_bytes(),
+                )
             }
-            Printer::AppendCanonical(mode) => appended(alloc, &pattern, mode),
+            Printer::AppendCanonical(mode) => appended(alloc, pattern, mode),
             Printer::WriteCanonical { mode, step, fails } => {
-                written(alloc, &pattern, mode, step.max(1), fails as u64)
+                written(alloc, pattern, mode, step, fails)
             }
             Printer::DisplayText => {
-                let text = display_text(alloc, &pattern)?;
-                Ok(String::from_str(alloc, text.as_str())?)
+                shown(alloc, display_text(alloc, pattern)?.as_str().as_bytes())
             }
             Printer::Display => Ok(format!(in alloc; "{pattern}")?),
         }
     }
 }
 
+/// Bytes as a text.
+fn shown(alloc: Global, bytes: &[u8]) -> Result<String, Fail> {
+    let text = str::from_utf8(bytes).unwrap_or("no text");
+    Ok(String::from_str(alloc, text)?)
+}
+
 fn appended(alloc: Global, pattern: &Pattern, mode: Mode) -> Result<String, Fail> {
     let mut bytes = List::new(alloc);
     bytes.push(b'x')?;
     append_canonical(alloc, &mut bytes, pattern, mode)?;
-    let text = str::from_utf8(bytes.as_slice()).ok().ok_or("no text")?;
-    let text = text.strip_prefix('x').ok_or("another byte")?;
-    Ok(String::from_str(alloc, text)?)
+    shown(
+        alloc,
+        bytes.as_slice().strip_prefix(b"x").unwrap_or(b"no x"),
+    )
 }
 
 /// What the sink takes, with `!` after it where a write failed.
@@ -64,19 +72,26 @@ fn written(
     mode: Mode,
     step: usize,
     fails: u64,
-) -> Result<String, Fail>
-    requires { 0 < step }
-{
+) -> Result<String, Fail> {
     let room = canonical_text(alloc, pattern, mode)?.as_str().len();
-    let mut all_fails = List::new(alloc);
-    all_fails.push(fails)?;
-    let mut sink = MemorySink::new(alloc, room, all_fails, step)?;
-    let end = match write_canonical(&mut sink, pattern, mode) {
+    let mut sink = sink_of(alloc, room, step, fails)?;
+    let end = write_to(&mut sink, pattern, mode);
+    let mut text = shown(alloc, sink.bytes())?;
+    text.push_str(end)?;
+    Ok(text)
+}
+
+fn sink_of(alloc: Global, room: usize, step: usize, call: u64) -> Result<MemorySink, OutOfMemory> {
+    let mut fails = List::new(alloc);
+    fails.push(call)?;
+    MemorySink::new(alloc, room, fails, step.max(1))
+}
+
+fn write_to(sink: &mut MemorySink, pattern: &Pattern, mode: Mode) -> &'static str {
+    match write_canonical(sink, pattern, mode) {
         Ok(()) => "",
         Err(Failed) => "!",
-    };
-    let text = str::from_utf8(sink.bytes()).ok().ok_or("no text")?;
-    Ok(format!(in alloc; "{text}{end}")?)
+    }
 }
 
 const IN_ANY_MODE: &str = r"terms U+FFFFFFFF => \u{FFFFFFFF}
@@ -106,11 +121,9 @@ const LEGACY_VALUES: &str =
     "values => \\x00\\x08\\t\\n\\v\\f\\r\\x0E\\x1F !&-\\/9a~\\x7F\\x9F\u{A0}\u{2027}\\u2028\\u2029\u{D7FF}\\uD800\\uDFFF\u{E000}\u{FFFF}\\u{10000}\\u{10FFFF}\\u{110000}
 [values] => [\\x00\\x08\\t\\n\\v\\f\\r\\x0E\\x1F !&\\-\\/9a~\\x7F\\x9F\u{A0}\u{2027}\\u2028\\u2029\u{D7FF}\\uD800\\uDFFF\u{E000}\u{FFFF}\\u{10000}\\u{10FFFF}\\u{110000}]";
 
-const UNICODE_OR_SETS: &str = r"terms 😀 => 😀
-terms U+D83D U+DE00 => \u{D83D}\u{DE00}";
-
-const UNICODE: &str =
-    r"read .{0,}.{1,}.{0,1}.{2,2}.{2,3}.{2,}.{0,0}.{1,1}.{0,}?.{0,1}? => .*.+.?.{2}.{2,3}.{2,}.{0}.{1}.*?.??
+const UNICODE: &str = r"terms 😀 => 😀
+terms U+D83D U+DE00 => \u{D83D}\u{DE00}
+read .{0,}.{1,}.{0,1}.{2,2}.{2,3}.{2,}.{0,0}.{1,1}.{0,}?.{0,1}? => .*.+.?.{2}.{2,3}.{2,}.{0}.{1}.*?.??
 terms .{3,2} .{10,18446744073709551615}? => .{3,2}.{10,18446744073709551615}?
 read (.)(?<größe>.)(?:.) => (.)(?<größe>.)(?:.)
 read (?i-ms:.) => (?i-ms:.)
@@ -132,7 +145,9 @@ const UNICODE_VALUES: &str =
     "values => \\x00\\x08\\t\\n\\v\\f\\r\\x0E\\x1F !&-\\/9a~\\x7F\\x9F\u{A0}\u{2027}\\u2028\\u2029\u{D7FF}\\u{D800}\\u{DFFF}\u{E000}\u{FFFF}\u{10000}\u{10FFFF}\\u{110000}
 [values] => [\\x00\\x08\\t\\n\\v\\f\\r\\x0E\\x1F !&\\-\\/9a~\\x7F\\x9F\u{A0}\u{2027}\\u2028\\u2029\u{D7FF}\\u{D800}\\u{DFFF}\u{E000}\u{FFFF}\u{10000}\u{10FFFF}\\u{110000}]";
 
-const SETS: &str = r#"punctuation => \^\$\\\.\*\+\?\(\)\[\]\{\}\|\/&-!#%,:;<=>@`~"'_
+const SETS: &str = r#"terms 😀 => 😀
+terms U+D83D U+DE00 => \u{D83D}\u{DE00}
+punctuation => \^\$\\\.\*\+\?\(\)\[\]\{\}\|\/&-!#%,:;<=>@`~"'_
 [punctuation] => [\^\$\\\.\*\+\?\(\)\[\]\{\}\|\/\&\-\!\#\%\,\:\;\<\=\>\@\`\~"'_]
 terms \p{L} => \p{L}
 read \P{Script=Greek} => \P{Script=Greek}
@@ -161,22 +176,16 @@ fn all_agree(alloc: Global, mode: Mode, rows: &str) -> Result<(), Fail> {
 
 #[test]
 fn canonical_spellings(rt: HostRuntime) -> Result<(), Fail> {
-    for (mode, rows) in [
-        (Mode::Legacy, IN_ANY_MODE),
-        (Mode::Legacy, LEGACY),
-        (Mode::Legacy, LEGACY_VALUES),
-        (Mode::Unicode, IN_ANY_MODE),
-        (Mode::Unicode, UNICODE_OR_SETS),
-        (Mode::Unicode, UNICODE),
-        (Mode::Unicode, UNICODE_VALUES),
-        (Mode::Sets, IN_ANY_MODE),
-        (Mode::Sets, UNICODE_OR_SETS),
-        (Mode::Sets, SETS),
-        (Mode::Sets, SETS_VALUES),
-    ] {
-        all_agree(rt.alloc(), mode, rows)?;
-    }
-    Ok(())
+    let alloc = rt.alloc();
+    all_agree(alloc, Mode::Legacy, IN_ANY_MODE)?;
+    all_agree(alloc, Mode::Legacy, LEGACY)?;
+    all_agree(alloc, Mode::Legacy, LEGACY_VALUES)?;
+    all_agree(alloc, Mode::Unicode, IN_ANY_MODE)?;
+    all_agree(alloc, Mode::Unicode, UNICODE)?;
+    all_agree(alloc, Mode::Unicode, UNICODE_VALUES)?;
+    all_agree(alloc, Mode::Sets, IN_ANY_MODE)?;
+    all_agree(alloc, Mode::Sets, SETS)?;
+    all_agree(alloc, Mode::Sets, SETS_VALUES)
 }
 
 const DISPLAYED: &str = r"terms U+FFFFFFFF => \u{FFFFFFFF}
@@ -220,14 +229,15 @@ read a(?:b|c)d{2} => a(?:b|c)d{2}";
 
 #[test]
 fn a_failing_write_is_told(rt: HostRuntime) -> Result<(), Fail> {
-    let mode = Mode::Unicode;
-    for (fails, row) in FAILING.lines().enumerate() {
-        let step = 1;
+    let (mode, step) = (Mode::Unicode, 1);
+    let mut fails = 0u64;
+    for row in FAILING.lines() {
         agree(
             rt.alloc(),
             &Printer::WriteCanonical { mode, step, fails },
             row,
         )?;
+        fails = fails.wrapping_add(1);
     }
     Ok(())
 }

@@ -12,7 +12,12 @@ impl Call for BufferCall {
         let pattern = read(alloc, asked)?;
         let alone = has_buffer_boundaries(&pattern);
         let among = has_buffer_boundaries_in(alloc, &pattern)?;
-        Ok(format!(in alloc; "{alone} {among}")?)
+        let answers = match (alone, among) {
+            (false, false) => "false false",
+            (true, true) => "true true",
+            _ => "they differ",
+        };
+        Ok(String::from_str(alloc, answers)?)
     }
 }
 

@@ -4,7 +4,7 @@ use rx_ast::{
     CharacterKind, Disjunction, Dot, IgnoreGroup, IndexedReference, Modifier, Modifiers,
     NamedReference, Pattern, Quantifier, Term, UnicodePropertyEscape,
 };
-use rx_base::{List, OutOfMemory, Span, Text};
+use rx_base::{Fault, List, OutOfMemory, Span, Text};
 use rx_tools::{Form, Options, read_pattern};
 use std::alloc::Global;
 use std::test::Fail;
@@ -49,7 +49,8 @@ pub fn read(alloc: Global, text: &str) -> Result<Pattern, Fail> {
     }
     match read_pattern(alloc, Form::Literal, text, Some("v"), Options::default()) {
         Ok((pattern, _)) => Ok(pattern),
-        Err(fault) => Err(Fail::from(fault)),
+        Err(Fault::Diagnostic(cause)) => Err(Fail::new(cause.name())),
+        Err(Fault::OutOfMemory) => Err(Fail::new("out of memory")),
     }
 }
 
