@@ -4,29 +4,31 @@ use rx_ast::{
 };
 use rx_base::{List, OutOfMemory, Span};
 use rx_rows::{Call, agree, text_of};
-use std::alloc::Global;
+use std::alloc::{AllocError, Global};
 use std::test::Fail;
 
-const KINDS: [(&str, CharacterKind); 10] = [
-    ("symbol", CharacterKind::Symbol),
-    ("unicode", CharacterKind::UnicodeEscape),
-    ("hex", CharacterKind::HexadecimalEscape),
-    ("identifier", CharacterKind::Identifier),
-    ("single", CharacterKind::SingleEscape),
-    ("control", CharacterKind::ControlLetter),
-    ("null", CharacterKind::Null),
-    ("octal1", CharacterKind::Octal1),
-    ("octal2", CharacterKind::Octal2),
-    ("octal3", CharacterKind::Octal3),
-];
+fn kind_of(name: &str) -> Option<CharacterKind> {
+    match name {
+        "symbol" => Some(CharacterKind::Symbol),
+        "unicode" => Some(CharacterKind::UnicodeEscape),
+        "hex" => Some(CharacterKind::HexadecimalEscape),
+        "identifier" => Some(CharacterKind::Identifier),
+        "single" => Some(CharacterKind::SingleEscape),
+        "control" => Some(CharacterKind::ControlLetter),
+        "null" => Some(CharacterKind::Null),
+        "octal1" => Some(CharacterKind::Octal1),
+        "octal2" => Some(CharacterKind::Octal2),
+        "octal3" => Some(CharacterKind::Octal3),
+        _ => None,
+    }
+}
 
 /// A character that is written by its kind and by its value in hexadecimal.
 fn character_of(word: &str) -> Option<Character> {
     let (kind, value) = word.split_once(':')?;
-    let (_, kind) = *KINDS.iter().find(|(name, _)| *name == kind)?;
     Some(Character {
         span: Span::empty(0),
-        kind,
+        kind: kind_of(kind)?,
         value: u32::from_str_radix(value, 16).ok()?,
     })
 }
@@ -36,49 +38,55 @@ struct Shown;
 
 impl Call for Shown {
     fn answer(&self, alloc: Global, asked: &str) -> Result<String, Fail> {
-        let (node, written) = asked.split_once(' ').ok_or("no characters")?;
-        match node {
-            "character" => {
-                let character = character_of(written).ok_or("no character")?;
-                Ok(format!(in alloc; "{character}")?)
-            }
-            "alternative" => Ok(format!(in alloc; "{}", alternative(alloc, written)?)?),
-            "union" => class(alloc, CharacterClassContentsKind::Union, written),
-            "intersection" => class(alloc, CharacterClassContentsKind::Intersection, written),
-            "subtraction" => class(alloc, CharacterClassContentsKind::Subtraction, written),
-            _ => pair(alloc, node, written),
-        }
+        Ok(text_shown(alloc, asked).ok_or(asked)?)
     }
 }
 
-fn alternative(alloc: Global, written: &str) -> Result<Alternative, Fail> {
-    let span = Span::empty(0);
+fn text_shown(alloc: Global, asked: &str) -> Option<String> {
+    let (node, written) = asked.split_once(' ')?;
+    match node {
+        "character" => character(alloc, character_of(written)?).ok(),
+        "alternative" => alternative(alloc, written),
+        "union" => class(alloc, CharacterClassContentsKind::Union, written),
+        "intersection" => class(alloc, CharacterClassContentsKind::Intersection, written),
+        "subtraction" => class(alloc, CharacterClassContentsKind::Subtraction, written),
+        "range" => range(alloc, written),
+        _ => strings(alloc, written),
+    }
+}
+
+fn character(alloc: Global, character: Character) -> Result<String, AllocError> {
+    format!(in alloc; "{character}")
+}
+
+fn alternative(alloc: Global, written: &str) -> Option<String> {
     let mut body = List::new(alloc);
     for word in written.split(' ') {
-        body.push(term_of(alloc, word)?)?;
+        body.push(term_of(alloc, word)?).ok()?;
     }
-    Ok(Alternative { span, body })
+    let span = Span::empty(0);
+    format!(in alloc; "{}", Alternative { span, body }).ok()
 }
 
-fn term_of(alloc: Global, word: &str) -> Result<Term, Fail> {
+fn term_of(alloc: Global, word: &str) -> Option<Term> {
     let Some(repeated) = word.strip_suffix('*') else {
-        return Ok(Term::Character(character_of(word).ok_or("no character")?));
+        return Some(Term::Character(character_of(word)?));
     };
     let quantifier = Quantifier {
         span: Span::empty(0),
         min: 0,
         max: None,
         greedy: true,
-        body: Term::Character(character_of(repeated).ok_or("no character")?),
+        body: Term::Character(character_of(repeated)?),
     };
-    Ok(Term::Quantifier(Box::new(alloc, quantifier)?))
+    Some(Term::Quantifier(Box::new(alloc, quantifier).ok()?))
 }
 
-fn class(alloc: Global, kind: CharacterClassContentsKind, written: &str) -> Result<String, Fail> {
+fn class(alloc: Global, kind: CharacterClassContentsKind, written: &str) -> Option<String> {
     let mut body = List::new(alloc);
     for word in written.split(' ') {
-        let character = character_of(word).ok_or("no character")?;
-        body.push(CharacterClassContents::Character(character))?;
+        let character = CharacterClassContents::Character(character_of(word)?);
+        body.push(character).ok()?;
     }
     let class = CharacterClass {
         span: Span::empty(0),
@@ -87,28 +95,39 @@ fn class(alloc: Global, kind: CharacterClassContentsKind, written: &str) -> Resu
         kind,
         body,
     };
-    Ok(format!(in alloc; "{class}")?)
+    format!(in alloc; "{class}").ok()
 }
 
-/// A range between two characters, or the string of both, twice.
-fn pair(alloc: Global, node: &str, written: &str) -> Result<String, Fail> {
+/// Two characters.
+fn pair(written: &str) -> Option<(Character, Character)> {
+    let (first, last) = written.split_once(' ')?;
+    Some((character_of(first)?, character_of(last)?))
+}
+
+/// A range between two characters.
+fn range(alloc: Global, written: &str) -> Option<String> {
     let span = Span::empty(0);
-    let (first, last) = written.split_once(' ').ok_or("one character")?;
-    let min = character_of(first).ok_or("no character")?;
-    let max = character_of(last).ok_or("no character")?;
-    if node == "range" {
-        return Ok(format!(in alloc; "{}", CharacterClassRange { span, min, max })?);
-    }
+    let (min, max) = pair(written)?;
+    format!(in alloc; "{}", CharacterClassRange { span, min, max }).ok()
+}
+
+/// The string of two characters, twice.
+fn strings(alloc: Global, written: &str) -> Option<String> {
+    let span = Span::empty(0);
+    let (first, last) = pair(written)?;
     let mut body = List::new(alloc);
-    body.push(string(alloc, min, max)?)?;
-    body.push(string(alloc, min, max)?)?;
+    body.push(string(alloc, first, last).ok()?).ok()?;
+    body.push(string(alloc, first, last).ok()?).ok()?;
     let strings = true;
-    let disjunction = ClassStringDisjunction {
-        span,
-        strings,
-        body,
-    };
-    Ok(format!(in alloc; "{disjunction}")?)
+    format!(in alloc;
+        "{}",
+        ClassStringDisjunction {
+            span,
+            strings,
+            body
+        }
+    )
+    .ok()
 }
 
 fn string(alloc: Global, first: Character, last: Character) -> Result<ClassString, OutOfMemory> {
@@ -129,8 +148,15 @@ fn agree_in_text(alloc: Global, rows: &str) -> Result<(), Fail> {
 }
 
 #[test]
-fn characters_by_kind(rt: HostRuntime) -> Result<(), Fail> {
-    let raw = r"character symbol:0 => «0»
+fn nodes_are_shown(rt: HostRuntime) -> Result<(), Fail> {
+    for rows in [RAW, HEXADECIMAL, LETTERS, OCTAL, ALTERNATIVES, CLASSES] {
+        agree_in_text(rt.alloc(), rows)?;
+    }
+    Ok(())
+}
+
+/// Characters that stand for themselves.
+const RAW: &str = r"character symbol:0 => «0»
 character symbol:61 => a
 character symbol:D7FF => «D7FF»
 character symbol:D800 => \uD800
@@ -146,8 +172,9 @@ character null:0 => \0
 character null:61 => \0
 character null:D800 => \0
 character null:110000 => \0";
-    agree_in_text(rt.alloc(), raw)?;
-    let hexadecimal = r"character unicode:0 => \u0000
+
+/// Hexadecimal escapes.
+const HEXADECIMAL: &str = r"character unicode:0 => \u0000
 character unicode:2A => \u002A
 character unicode:D800 => \uD800
 character unicode:FFFF => \uFFFF
@@ -162,8 +189,9 @@ character hex:100 => \x100
 character hex:10FFFF => \x10FFFF
 character hex:DFFF => \uDFFF
 character hex:110000 => \u{110000}";
-    agree_in_text(rt.alloc(), hexadecimal)?;
-    let letters = r"character single:7 => \«7»
+
+/// Single escapes and control letters.
+const LETTERS: &str = r"character single:7 => \«7»
 character single:8 => \b
 character single:9 => \t
 character single:A => \n
@@ -184,8 +212,9 @@ character control:D800 => \uD800
 character control:FFFF => \uFFFF
 character control:10000 => \u{10000}
 character control:110000 => \u{110000}";
-    agree_in_text(rt.alloc(), letters)?;
-    let octal = r"character octal1:0 => \0
+
+/// Octal escapes.
+const OCTAL: &str = r"character octal1:0 => \0
 character octal1:7 => \7
 character octal1:8 => \10
 character octal2:0 => \00
@@ -203,12 +232,9 @@ character octal3:200 => \1000
 character octal1:D800 => \uD800
 character octal2:DFFF => \uDFFF
 character octal3:110000 => \u{110000}";
-    agree_in_text(rt.alloc(), octal)
-}
 
-#[test]
-fn surrogates_are_joined(rt: HostRuntime) -> Result<(), Fail> {
-    let alternatives = r"alternative octal3:2 symbol:32 => \0022
+/// Surrogates are joined in alternatives.
+const ALTERNATIVES: &str = r"alternative octal3:2 symbol:32 => \0022
 alternative symbol:D83D symbol:DE00 => «1F600»
 alternative symbol:D800 symbol:DC00 => «10000»
 alternative symbol:DBFF symbol:DFFF => «10FFFF»
@@ -227,8 +253,9 @@ alternative symbol:D83D symbol:D83D symbol:DE00 symbol:DE00 => \uD83D«1F600»\u
 alternative symbol:D83D symbol:61 symbol:DE00 => \uD83Da\uDE00
 alternative symbol:D83D* symbol:DE00 => \uD83D*\uDE00
 alternative symbol:D83D symbol:DE00* => \uD83D\uDE00*";
-    agree_in_text(rt.alloc(), alternatives)?;
-    let classes = r"union symbol:D83D symbol:DE00 symbol:61 => [«1F600»a]
+
+/// Surrogates are joined in classes, and not in ranges and strings.
+const CLASSES: &str = r"union symbol:D83D symbol:DE00 symbol:61 => [«1F600»a]
 intersection symbol:61 => [a]
 intersection symbol:61 symbol:62 hex:63 => [a&&b&&\x63]
 intersection symbol:D83D unicode:DE00 => [«1F600»]
@@ -240,5 +267,3 @@ range symbol:61 unicode:63 => a-\u0063
 range symbol:D83D symbol:DE00 => \uD83D-\uDE00
 strings symbol:61 single:A => \q{a\n|a\n}
 strings symbol:D83D symbol:DE00 => \q{\uD83D\uDE00|\uD83D\uDE00}";
-    agree_in_text(rt.alloc(), classes)
-}

@@ -2,19 +2,17 @@ ghost use Rattle.std.specs.Prelude.{◌≡◌};
 
 use rx_base::{Counter, Tally};
 use rx_units::Reader;
-use std::alloc::Global;
 use std::marker::Brand;
 use std::sync::ledger::{Blank, Ledger};
 use std::test::Fail;
 
 /// What a counter tells to which three steps were added, and then one; and what it tells after calls that move over some of fourteen units, and one that
 /// moves over none. And what each of these calls ate.
-fn counted<L: Ledger>(alloc: Global, blank: Blank) -> Result<([u64; 2], [bool; 5]), Fail>
+fn counted<L: Ledger>(reader: &mut Reader<'_>, blank: Blank) -> ([u64; 2], [bool; 5])
     requires name { blank.name ≡ L.name }
     requires parts { blank.parts ≡ L.parts }
     requires one { blank.parts ≡ 1 }
 {
-    let mut reader = Reader::initialize(alloc, "abcdefghijklmn", true, false)?;
     let mut tally = Tally::<L>::new(blank);
     tally.add(3);
     tally.tick();
@@ -28,12 +26,13 @@ fn counted<L: Ledger>(alloc: Global, blank: Blank) -> Result<([u64; 2], [bool; 5
         reader.eat3_counted('g', 'h', 'i', &mut tally),
         reader.eat4_counted('j', 'k', 'l', 'm', &mut tally),
     ];
-    Ok(([added, tally.total()], eaten))
+    ([added, tally.total()], eaten)
 }
 
 #[test]
 fn steps_are_counted(rt: HostRuntime) -> Result<(), Fail> {
-    let counted = counted::<Brand>(rt.alloc(), Blank::new(1))?;
+    let mut reader = Reader::initialize(rt.alloc(), "abcdefghijklmn", true, false)?;
+    let counted = counted::<Brand>(&mut reader, Blank::new(1));
     assert_eq!(rt; counted, ([4, 17], [false, true, true, true, true]));
     Ok(())
 }

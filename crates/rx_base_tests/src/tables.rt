@@ -10,24 +10,8 @@ use rx_tables::{
     is_valid_unicode_property, map_c_ascii_letter, map_control_escape, map_hex_digit,
     map_short_escape,
 };
-use std::alloc::Global;
+use std::alloc::{AllocError, Global};
 use std::test::Fail;
-
-const SETS: [&str; 13] = [
-    "syntax",
-    "syntax of classes",
-    "twice",
-    "before the next",
-    "reserved",
-    "decimal",
-    "octal",
-    "of names",
-    "of values",
-    "ID_Start",
-    "ID_Continue",
-    "first of identifiers",
-    "in identifiers",
-];
 
 /// Which of the sets hold a code point.
 fn holding(code: u32) -> [bool; 13] {
@@ -48,44 +32,41 @@ fn holding(code: u32) -> [bool; 13] {
     ]
 }
 
-/// Asked is a set by its name. The answer has the characters up to U+0080 that it holds, in order, or that there are none.
-struct Members;
-
-impl Call for Members {
-    fn answer(&self, alloc: Global, asked: &str) -> Result<String, Fail> {
-        let set = SETS
-            .iter()
-            .position(|name| *name == asked)
-            .ok_or("no such set")?;
-        let mut members = String::new(alloc);
-        for byte in 0..=0x80u8 {
-            if holding(u32::from(byte)).get(set) == Some(&true) {
-                members.push(char::from(byte))?;
-            }
+/// The characters up to U+0080 that a set holds, in order.
+fn members(alloc: Global, set: usize) -> Result<String, AllocError> {
+    let mut members = String::new(alloc);
+    for byte in 0..=0x80u8 {
+        if holding(u32::from(byte)).get(set) == Some(&true) {
+            members.push(char::from(byte))?;
         }
-        if members.is_empty() {
-            members.push_str("none")?;
-        }
-        Ok(members)
     }
+    Ok(members)
 }
 
+/// The characters of each set, in the order of `holding`.
+const MEMBERS: [&str; 13] = [
+    r"$()*+.?[\]^{|}",
+    r"()-/[\]{|}",
+    "!#$%&*+,.:;<=>?@^`~",
+    "",
+    "!#%&,-:;<=>@`~",
+    "0123456789",
+    "01234567",
+    "ABCDEFGHIJKLMNOPQRSTUVWXYZ_abcdefghijklmnopqrstuvwxyz",
+    "0123456789ABCDEFGHIJKLMNOPQRSTUVWXYZ_abcdefghijklmnopqrstuvwxyz",
+    "ABCDEFGHIJKLMNOPQRSTUVWXYZabcdefghijklmnopqrstuvwxyz",
+    "0123456789ABCDEFGHIJKLMNOPQRSTUVWXYZ_abcdefghijklmnopqrstuvwxyz",
+    "$ABCDEFGHIJKLMNOPQRSTUVWXYZ_abcdefghijklmnopqrstuvwxyz",
+    "$0123456789ABCDEFGHIJKLMNOPQRSTUVWXYZ_abcdefghijklmnopqrstuvwxyz",
+];
+
 #[test]
-fn sets_in_ascii(rt: HostRuntime) -> Result<(), Fail> {
-    let rows = r"syntax => $()*+.?[\]^{|}
-syntax of classes => ()-/[\]{|}
-twice => !#$%&*+,.:;<=>?@^`~
-before the next => none
-reserved => !#%&,-:;<=>@`~
-decimal => 0123456789
-octal => 01234567
-of names => ABCDEFGHIJKLMNOPQRSTUVWXYZ_abcdefghijklmnopqrstuvwxyz
-of values => 0123456789ABCDEFGHIJKLMNOPQRSTUVWXYZ_abcdefghijklmnopqrstuvwxyz
-ID_Start => ABCDEFGHIJKLMNOPQRSTUVWXYZabcdefghijklmnopqrstuvwxyz
-ID_Continue => 0123456789ABCDEFGHIJKLMNOPQRSTUVWXYZ_abcdefghijklmnopqrstuvwxyz
-first of identifiers => $ABCDEFGHIJKLMNOPQRSTUVWXYZ_abcdefghijklmnopqrstuvwxyz
-in identifiers => $0123456789ABCDEFGHIJKLMNOPQRSTUVWXYZ_abcdefghijklmnopqrstuvwxyz";
-    agree(rt.alloc(), &Members, rows)
+fn sets_in_ascii(rt: HostRuntime) -> Result<(), AllocError> {
+    for (set, wanted) in MEMBERS.iter().enumerate() {
+        let members = members(rt.alloc(), set)?;
+        assert!(rt; members.as_str() == *wanted, "{members}");
+    }
+    Ok(())
 }
 
 /// The values as a control escape, as the letter of a control escape, as a hexadecimal digit and as a short escape.
@@ -119,122 +100,115 @@ fn only_identifiers_go_past_ascii(rt: HostRuntime) {
         let sets = [
             false, false, false, false, false, false, false, false, false, start, part, start, part,
         ];
-        assert_eq!(rt;
-            (is_valid_unicode(code), holding(code), mapped_values(code)),
-            (valid, sets, [None; 4]),
-            "at {code:X}"
-        );
+        let as_wanted = (is_valid_unicode(code) == valid)
+            & (holding(code) == sets)
+            & (mapped_values(code) == [None; 4]);
+        assert!(rt; as_wanted, "at {code:X}");
     }
 }
 
-/// Asked is a character.
-struct Maps;
+/// Asked are what is asked of and a text: of a `map` a character, of a `word` a lone word, of a `value` a name and a value. The answer has what the maps have;
+/// whether the word is a property of characters, and whether it is one of strings; or whether name and value are a property.
+struct Lookup;
 
-impl Call for Maps {
+impl Call for Lookup {
     fn answer(&self, alloc: Global, asked: &str) -> Result<String, Fail> {
-        let character = asked.chars().next().ok_or("no character")?;
-        Ok(format!(in alloc; "{:?}", mapped_values(u32::from(character)))?)
+        Ok(looked_up(alloc, asked).ok_or(asked)?)
     }
 }
 
-#[test]
-fn maps_of_ascii(rt: HostRuntime) -> Result<(), Fail> {
-    let rows = "/ => [None, None, None, Some(47)]
-0 => [None, None, Some(0), None]
-9 => [None, None, Some(9), None]
-: => [None, None, None, None]
-@ => [None, None, None, None]
-A => [None, Some(1), Some(10), None]
-F => [None, Some(6), Some(15), None]
-G => [None, Some(7), None, None]
-Z => [None, Some(26), None, None]
-[ => [None, None, None, Some(91)]
-` => [None, None, None, None]
-a => [None, Some(1), Some(10), None]
-e => [None, Some(5), Some(14), None]
-f => [Some(12), Some(6), Some(15), Some(12)]
-g => [None, Some(7), None, None]
-m => [None, Some(13), None, None]
-n => [Some(10), Some(14), None, Some(10)]
-o => [None, Some(15), None, None]
-q => [None, Some(17), None, None]
-r => [Some(13), Some(18), None, Some(13)]
-s => [None, Some(19), None, None]
-t => [Some(9), Some(20), None, Some(9)]
-u => [None, Some(21), None, None]
-v => [Some(11), Some(22), None, Some(11)]
-w => [None, Some(23), None, None]
-z => [None, Some(26), None, None]
-{ => [None, None, None, Some(123)]
-$ => [None, None, None, Some(36)]
-. => [None, None, None, Some(46)]
-? => [None, None, None, Some(63)]
-| => [None, None, None, Some(124)]
-} => [None, None, None, Some(125)]
-- => [None, None, None, None]
-_ => [None, None, None, None]
-, => [None, None, None, None]
-é => [None, None, None, None]
-~ => [None, None, None, None]
-^ => [None, None, None, Some(94)]
-] => [None, None, None, Some(93)]
-* => [None, None, None, Some(42)]
-+ => [None, None, None, Some(43)]
-) => [None, None, None, Some(41)]
-( => [None, None, None, Some(40)]";
-    agree(rt.alloc(), &Maps, rows)
-}
-
-/// Asked are a name and a value, or a lone word. Of the first the answer says whether they are a property; of a word whether it is a property of characters,
-/// and whether it is one of strings.
-struct Property;
-
-impl Call for Property {
-    fn answer(&self, alloc: Global, asked: &str) -> Result<String, Fail> {
-        match asked.split_once('=') {
-            Some((name, value)) => {
-                Ok(format!(in alloc; "{}", is_valid_unicode_property(name, value))?)
-            }
-            None => Ok(format!(in alloc;
-                "{} {}",
-                is_valid_lone_unicode_property(asked),
-                is_valid_lone_unicode_property_of_strings(asked)
-            )?),
-        }
+fn looked_up(alloc: Global, asked: &str) -> Option<String> {
+    let (what, text) = asked.split_once(' ')?;
+    match what {
+        "map" => maps(alloc, text.chars().next()?).ok(),
+        "word" => word(alloc, text).ok(),
+        _ => value(alloc, text.split_once('=')?).ok(),
     }
 }
 
-#[test]
-fn words_of_properties(rt: HostRuntime) -> Result<(), Fail> {
-    let rows = "ASCII => true false
-XIDS => true false
-ascii => false false
-Xids => false false
-Basic_Emoji => false true
-RGI_Emoji => false true
-RGI_emoji => false false
-Lu => false false
- => false false";
-    agree(rt.alloc(), &Property, rows)
+fn maps(alloc: Global, character: char) -> Result<String, AllocError> {
+    format!(in alloc; "{:?}", mapped_values(u32::from(character)))
+}
+
+fn word(alloc: Global, word: &str) -> Result<String, AllocError> {
+    let of_characters = is_valid_lone_unicode_property(word);
+    let of_strings = is_valid_lone_unicode_property_of_strings(word);
+    format!(in alloc; "{of_characters} {of_strings}")
+}
+
+fn value(alloc: Global, (name, value): (&str, &str)) -> Result<String, AllocError> {
+    format!(in alloc; "{}", is_valid_unicode_property(name, value))
 }
 
 #[test]
-fn values_of_properties(rt: HostRuntime) -> Result<(), Fail> {
-    let rows = "General_Category=C => true
-gc=Space_Separator => true
-gc=space_separator => false
-gc= => false
-gc=Adlm => false
-Script=Adlm => true
-sc=Unknown => true
-Script_Extensions=Adlm => true
-scx=Unknown => true
-scx=unknown => false
-sc= => false
-sc=C => false
-GC=C => false
-script=Adlm => false
-=C => false
-Any=C => false";
-    agree(rt.alloc(), &Property, rows)
+fn texts_are_looked_up(rt: HostRuntime) -> Result<(), Fail> {
+    let rows = "map / => [None, None, None, Some(47)]
+map 0 => [None, None, Some(0), None]
+map 9 => [None, None, Some(9), None]
+map : => [None, None, None, None]
+map @ => [None, None, None, None]
+map A => [None, Some(1), Some(10), None]
+map F => [None, Some(6), Some(15), None]
+map G => [None, Some(7), None, None]
+map Z => [None, Some(26), None, None]
+map [ => [None, None, None, Some(91)]
+map ` => [None, None, None, None]
+map a => [None, Some(1), Some(10), None]
+map e => [None, Some(5), Some(14), None]
+map f => [Some(12), Some(6), Some(15), Some(12)]
+map g => [None, Some(7), None, None]
+map m => [None, Some(13), None, None]
+map n => [Some(10), Some(14), None, Some(10)]
+map o => [None, Some(15), None, None]
+map q => [None, Some(17), None, None]
+map r => [Some(13), Some(18), None, Some(13)]
+map s => [None, Some(19), None, None]
+map t => [Some(9), Some(20), None, Some(9)]
+map u => [None, Some(21), None, None]
+map v => [Some(11), Some(22), None, Some(11)]
+map w => [None, Some(23), None, None]
+map z => [None, Some(26), None, None]
+map { => [None, None, None, Some(123)]
+map $ => [None, None, None, Some(36)]
+map . => [None, None, None, Some(46)]
+map ? => [None, None, None, Some(63)]
+map | => [None, None, None, Some(124)]
+map } => [None, None, None, Some(125)]
+map - => [None, None, None, None]
+map _ => [None, None, None, None]
+map , => [None, None, None, None]
+map é => [None, None, None, None]
+map ~ => [None, None, None, None]
+map ^ => [None, None, None, Some(94)]
+map ] => [None, None, None, Some(93)]
+map * => [None, None, None, Some(42)]
+map + => [None, None, None, Some(43)]
+map ) => [None, None, None, Some(41)]
+map ( => [None, None, None, Some(40)]
+word ASCII => true false
+word XIDS => true false
+word ascii => false false
+word Xids => false false
+word Basic_Emoji => false true
+word RGI_Emoji => false true
+word RGI_emoji => false false
+word Lu => false false
+word  => false false
+value General_Category=C => true
+value gc=Space_Separator => true
+value gc=space_separator => false
+value gc= => false
+value gc=Adlm => false
+value Script=Adlm => true
+value sc=Unknown => true
+value Script_Extensions=Adlm => true
+value scx=Unknown => true
+value scx=unknown => false
+value sc= => false
+value sc=C => false
+value GC=C => false
+value script=Adlm => false
+value =C => false
+value Any=C => false";
+    agree(rt.alloc(), &Lookup, rows)
 }

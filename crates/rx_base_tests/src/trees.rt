@@ -6,7 +6,7 @@ use rx_ast::{
     Pattern, Quantifier, Term,
 };
 use rx_base::{ContentEq, GetSpan, List, OutOfMemory, Span, Text};
-use std::alloc::Global;
+use std::alloc::{AllocError, Global};
 
 /// Two sets by their bits; those of their union, their intersection, what the first has alone, what one has alone, and the complement of the first; those of
 /// the first after the second was inserted, then removed, and after it was toggled; and whether the first contains and intersects the second.
@@ -43,77 +43,65 @@ fn modifiers_are_sets_of_bits(rt: HostRuntime) {
             removed.bits(),
             toggled.bits(),
         ];
-        assert_eq!(rt; (found, [a.contains(b), a.intersects(b)]), (bits, answers));
+        let told = [a.contains(b), a.intersects(b)];
+        assert!(rt; (found == bits) & (told == answers), "{found:?} {told:?}");
     }
 }
 
 #[test]
 fn bits_of_modifiers(rt: HostRuntime) {
-    assert_eq!(rt;
-        (
-            [
-                Modifier::from_bits(7),
-                Modifier::from_bits(8),
-                Modifier::from_bits(9)
-            ],
-            Modifier::from_bits_truncate(9),
-            Modifier::I | Modifier::M | Modifier::S,
-            Modifier::from_bits_truncate(0b1101).bits()
-        ),
-        (
-            [Some(Modifier::all()), None, None],
-            Modifier::I,
-            Modifier::all(),
-            0b101
-        )
-    );
-    assert_eq!(rt;
-        [
-            Modifier::from_bits_retain(0b1111).is_all(),
-            Modifier::from_bits_retain(0b1000).is_empty(),
-            Modifier::empty().is_empty(),
-        ],
-        [true, false, true]
+    let kept = [
+        Modifier::from_bits_truncate(9).bits(),
+        (Modifier::I | Modifier::M | Modifier::S).bits(),
+        Modifier::from_bits_truncate(0b1101).bits(),
+    ];
+    let answers = [
+        Modifier::from_bits(7) == Some(Modifier::all()),
+        Modifier::from_bits(8).is_none(),
+        Modifier::from_bits(9).is_none(),
+        Modifier::from_bits_retain(0b1111).is_all(),
+        !Modifier::from_bits_retain(0b1000).is_empty(),
+        Modifier::empty().is_empty(),
+    ];
+    assert!(rt;
+        (kept == [Modifier::I.bits(), Modifier::all().bits(), 0b101]) & (answers == [true; 6])
     );
 }
 
-/// Of a quantified group of a class with a range: the spans of all but the characters, the numbers of the quantifier and whether it is greedy, the name, and
-/// what the class and the range hold.
-fn parts_of(pattern: &Pattern) -> Option<Parts<'_>> {
-    let Some(Term::Quantifier(quantifier)) = only_term(&pattern.body) else {
+/// Of a quantified group of a class with a range: the spans of all but the characters. The values show in its text.
+fn spans_of(pattern: &Pattern) -> Option<[Span; 5]> {
+    let Term::Quantifier(quantifier) = only_term(&pattern.body)? else {
         return None;
     };
     let Term::CapturingGroup(group) = &quantifier.body else {
         return None;
     };
-    let Some(Term::CharacterClass(class)) = only_term(&group.body) else {
+    let Term::CharacterClass(class) = only_term(&group.body)? else {
         return None;
     };
-    let Some(CharacterClassContents::CharacterClassRange(range)) = class.body.get(0) else {
+    let CharacterClassContents::CharacterClassRange(range) = class.body.get(0)? else {
         return None;
     };
-    Some(Parts {
-        spans: [
-            pattern.span,
-            quantifier.span,
-            quantifier.body.span(),
-            class.span,
-            range.span,
-        ],
-        repeated: (quantifier.min, quantifier.max, quantifier.greedy),
-        name: group.name.as_ref()?.as_str(),
-        class: (class.negative, class.kind),
-        range: (range.min.value, range.max.value),
-    })
+    Some([
+        pattern.span,
+        quantifier.span,
+        quantifier.body.span(),
+        class.span,
+        range.span,
+    ])
 }
 
-#[derive(Clone, Copy, Debug, PartialEq, Eq)]
-struct Parts<'a> {
-    spans: [Span; 5],
-    repeated: (u64, Option<u64>, bool),
-    name: &'a str,
-    class: (bool, CharacterClassContentsKind),
-    range: (u32, u32),
+const SPANS: [Span; 5] = [
+    Span { start: 0, end: 17 },
+    Span { start: 0, end: 17 },
+    Span { start: 0, end: 11 },
+    Span { start: 5, end: 10 },
+    Span { start: 6, end: 9 },
+];
+
+/// Whether a pattern is shown so.
+fn shows(alloc: Global, pattern: &Pattern, text: &str) -> Result<bool, AllocError> {
+    Ok(format!(in alloc; "{pattern}")?.as_str() == text)
 }
 
 #[test]
@@ -121,20 +109,8 @@ fn a_clone_has_the_same_spans_and_values(rt: HostRuntime) -> Result<(), OutOfMem
     let pattern = pattern_by_hand(rt.alloc())?;
     let copy = pattern.clone(rt.alloc())?;
     drop(pattern);
-    let wanted = Parts {
-        spans: [
-            Span::new(0, 17),
-            Span::new(0, 17),
-            Span::new(0, 11),
-            Span::new(5, 10),
-            Span::new(6, 9),
-        ],
-        repeated: (2, Some(3), false),
-        name: "n",
-        class: (false, CharacterClassContentsKind::Union),
-        range: (97, 99),
-    };
-    assert_eq!(rt; parts_of(&copy), Some(wanted));
+    let is_shown = shows(rt.alloc(), &copy, "(?<n>[a-c]){2,3}?")?;
+    assert!(rt; is_shown & (spans_of(&copy) == Some(SPANS)));
     Ok(())
 }
 
@@ -144,17 +120,12 @@ fn content_leaves_out_spans_alone(rt: HostRuntime) -> Result<(), OutOfMemory> {
     let mut copy = pattern.clone(rt.alloc())?;
     copy.span = Span::empty(9);
     copy.body.span = Span::empty(9);
+    let is_equal = pattern.content_eq(&copy);
     let dot = Term::Dot(Dot { span: pattern.span });
-    let other = disjunction_of(rt.alloc(), pattern.span, dot)?;
-    let shown = format!(in rt.alloc(); "{pattern}")?;
-    assert_eq!(rt;
-        (
-            pattern.content_eq(&copy),
-            pattern.body.content_eq(&other),
-            shown.as_str()
-        ),
-        (true, false, "(?<n>[a-c]){2,3}?")
-    );
+    copy.body = disjunction_of(rt.alloc(), pattern.span, dot)?;
+    let is_other = !pattern.body.content_eq(&copy.body);
+    let is_shown = shows(rt.alloc(), &pattern, "(?<n>[a-c]){2,3}?")?;
+    assert!(rt; is_equal & is_other & is_shown);
     Ok(())
 }
 
@@ -163,31 +134,21 @@ fn content_of_characters_has_their_kind(rt: HostRuntime) {
     let character = symbol(0, 97);
     let mut escaped = character;
     escaped.kind = CharacterKind::HexadecimalEscape;
-    assert_eq!(rt;
-        [
-            character.content_eq(&symbol(5, 97)),
-            character.content_eq(&symbol(0, 98)),
-            character.content_eq(&escaped),
-            Modifier::I.content_eq(&Modifier::from_bits_retain(0b1001)),
-            Modifier::I.content_eq(&Modifier::M),
-        ],
-        [true, false, false, true, false]
-    );
+    let same = character.content_eq(&symbol(5, 97))
+        & Modifier::I.content_eq(&Modifier::from_bits_retain(0b1001));
+    let other = character.content_eq(&symbol(0, 98))
+        | character.content_eq(&escaped)
+        | Modifier::I.content_eq(&Modifier::M);
+    assert!(rt; same & !other);
 }
 
 #[test]
 fn content_of_names(rt: HostRuntime) -> Result<(), OutOfMemory> {
     let name = Some(Text::from_str(rt.alloc(), "n")?);
-    let same = Some(Text::from_str(rt.alloc(), "n")?);
-    let other = Some(Text::from_str(rt.alloc(), "m")?);
-    assert_eq!(rt;
-        [
-            name.content_eq(&same),
-            name.content_eq(&other),
-            name.content_eq(&None)
-        ],
-        [true, false, false]
-    );
+    let mut other = Some(Text::from_str(rt.alloc(), "n")?);
+    let same = name.content_eq(&other);
+    other = Some(Text::from_str(rt.alloc(), "m")?);
+    assert!(rt; same & !name.content_eq(&other) & !name.content_eq(&None));
     Ok(())
 }
 

@@ -1,46 +1,54 @@
 ghost use Rattle.std.specs.Prelude.{◌<◌, ◌^◌, length};
 
 use crate::quoted::units;
-use rx_base::{List, Span};
-use rx_rows::{Call, agree, short};
+use rx_base::{List, Span, Text};
+use rx_rows::{Call, agree};
 use rx_units::{
     CR, EscapeKind, LF, LS, PS, Reader, handle_code_point, is_line_terminator,
     is_non_escape_character, is_single_escape_character, parse_regexp_literal,
 };
-use std::alloc::Global;
+use std::alloc::{AllocError, Global};
 use std::test::Fail;
+
+/// The units of a literal, after its offset.
+fn literal(alloc: Global, text: &str, offset: u32, joined: bool) -> Option<String> {
+    if text.len() > 1000 || offset > 1000 {
+        return None;
+    }
+    let body = parse_regexp_literal(alloc, text, offset, joined).ok()?;
+    units(alloc, Span::empty(offset), &body).ok()
+}
 
 #[test]
 fn units_of_literals(rt: HostRuntime) -> Result<(), Fail> {
-    let alloc = rt.alloc();
-    let mut shown = String::new(alloc);
-    for (text, offset, joined) in [
-        ("", 0, true),
-        ("ab", 0, true),
-        ("é\u{1F600}", 5, true),
-        ("\u{FFFF}\u{1F600}", 0, false),
+    for (text, offset, joined, wanted) in [
+        ("", 0, true, "0..0:"),
+        ("ab", 0, true, "0..0: 61@0..1 62@1..2"),
+        ("é\u{1F600}", 5, true, "5..5: E9@5..7 1F600@7..11"),
+        (
+            "\u{FFFF}\u{1F600}",
+            0,
+            false,
+            "0..0: FFFF@0..3 D83D@3..7 DE00@3..7",
+        ),
     ] {
-        let body = parse_regexp_literal(alloc, short(text)?, offset, joined)?;
-        shown.push_str(&units(alloc, Span::empty(offset), &body)?)?;
-        shown.push('\n')?;
+        let units = literal(rt.alloc(), text, offset, joined).ok_or(text)?;
+        assert_eq!(rt; units.as_str(), wanted);
     }
-    assert_eq!(rt; shown.as_str(), LITERALS);
     Ok(())
 }
 
-const LITERALS: &str = "0..0:
-0..0: 61@0..1 62@1..2
-5..5: E9@5..7 1F600@7..11
-0..0: FFFF@0..3 D83D@3..7 DE00@3..7
-";
+/// The units of a character past FFFF that stands at an offset, apart.
+fn pair(alloc: Global) -> Option<String> {
+    let mut body = List::new(alloc);
+    handle_code_point(&mut body, ((0, 4), 0x1F600, EscapeKind::Unicode), 10, false).ok()?;
+    units(alloc, Span::empty(10), &body).ok()
+}
 
 #[test]
 fn a_pair_apart(rt: HostRuntime) -> Result<(), Fail> {
-    let alloc = rt.alloc();
-    let mut body = List::new(alloc);
-    handle_code_point(&mut body, ((0, 4), 0x1F600, EscapeKind::Unicode), 10, false)?;
-    let shown = units(alloc, Span::empty(10), &body)?;
-    assert_eq!(rt; shown.as_str(), "10..10: D83D@10..14u DE00@10..14u");
+    let pair = pair(rt.alloc()).ok_or("no memory")?;
+    assert_eq!(rt; pair.as_str(), "10..10: D83D@10..14u DE00@10..14u");
     Ok(())
 }
 
@@ -54,47 +62,55 @@ pub struct Walk {
 
 impl Call for Walk {
     fn answer(&self, alloc: Global, asked: &str) -> Result<String, Fail> {
-        let made = Reader::initialize(alloc, short(asked)?, self.unicode_mode, self.quoted);
-        let mut reader = match made {
-            Ok(reader) => reader,
-            Err(fault) => return Ok(format!(in alloc; "{fault:?}")?),
-        };
-        let count = reader.remaining_code_points().len();
-        let mut walked = format!(in alloc; "{count}")?;
-        for _ in 0..=count {
-            let (checkpoint, next, second) = (reader.checkpoint(), reader.peek(), reader.peek2());
-            let escape = reader.peek_escape_kind();
-            walked.push_str(&format!(in alloc;
-                "; {checkpoint:?} {next:?} {second:?} {escape:?}"
-            )?)?;
-            reader.advance();
-        }
-        Ok(walked)
+        Ok(walk_over(alloc, *self, asked).ok_or(asked)?)
     }
+}
+
+fn walk_over(alloc: Global, how: Walk, text: &str) -> Option<String> {
+    if text.len() > 1000 {
+        return None;
+    }
+    match Reader::initialize(alloc, text, how.unicode_mode, how.quoted) {
+        Ok(mut reader) => walked(alloc, &mut reader).ok(),
+        Err(fault) => format!(in alloc; "{fault:?}").ok(),
+    }
+}
+
+fn walked(alloc: Global, reader: &mut Reader<'_>) -> Result<String, AllocError> {
+    let count = reader.remaining_code_points().len();
+    let mut walked = format!(in alloc; "{count}")?;
+    for _ in 0..=count {
+        let place = place(alloc, reader)?;
+        walked.push_str(&place)?;
+        reader.advance();
+    }
+    Ok(walked)
+}
+
+fn place(alloc: Global, reader: &Reader<'_>) -> Result<String, AllocError> {
+    let (checkpoint, next, second) = (reader.checkpoint(), reader.peek(), reader.peek2());
+    let escape = reader.peek_escape_kind();
+    format!(in alloc; "; {checkpoint:?} {next:?} {second:?} {escape:?}")
 }
 
 #[test]
 fn readers_go_over_all_units(rt: HostRuntime) -> Result<(), Fail> {
-    let joined =
-        "é\u{20AC}\u{1F600} => 3; (0, 0) Some(233) Some(8364) None; (1, 2) Some(8364) Some(128512) None; (2, 5) Some(128512) None None; (3, 9) None None None";
-    let walk = Walk {
+    let mut walk = Walk {
         unicode_mode: true,
         quoted: false,
     };
+    let joined =
+        "é\u{20AC}\u{1F600} => 3; (0, 0) Some(233) Some(8364) None; (1, 2) Some(8364) Some(128512) None; (2, 5) Some(128512) None None; (3, 9) None None None";
     agree(rt.alloc(), &walk, joined)?;
     let parted =
         "é\u{20AC}\u{1F600} => 4; (0, 0) Some(233) Some(8364) None; (1, 2) Some(8364) Some(55357) None; (2, 5) Some(55357) Some(56832) None; (3, 9) Some(56832) None None; (4, 9) None None None
 ab => 2; (0, 0) Some(97) Some(98) None; (1, 1) Some(98) None None; (2, 2) None None None";
-    let walk = Walk {
-        unicode_mode: false,
-        quoted: false,
-    };
+    walk.unicode_mode = false;
     agree(rt.alloc(), &walk, parted)
 }
 
-#[test]
-fn units_are_eaten(rt: HostRuntime) -> Result<(), Fail> {
-    let mut reader = Reader::initialize(rt.alloc(), "abcabcd", true, false)?;
+/// Of a reader of `abcabcd`: how many units stand before the second place, and the offsets after three units and at the end; and what is eaten.
+fn eaten(reader: &mut Reader<'_>) -> ([usize; 3], [bool; 6]) {
     let start = reader.checkpoint();
     reader.advance();
     let since = reader.code_points_since(start).len();
@@ -102,122 +118,154 @@ fn units_are_eaten(rt: HostRuntime) -> Result<(), Fail> {
     let two = [reader.eat2('a', 'a'), reader.eat2('a', 'b')];
     reader.rewind(start);
     let three = [reader.eat3('a', 'b', 'd'), reader.eat3('a', 'b', 'c')];
-    let after_three = reader.offset();
+    let after_three = reader.offset() as usize;
     let four = [
         reader.eat4('a', 'b', 'c', 'e'),
         reader.eat4('a', 'b', 'c', 'd'),
     ];
+    (
+        [since, after_three, reader.offset() as usize],
+        [two[0], two[1], three[0], three[1], four[0], four[1]],
+    )
+}
+
+#[test]
+fn units_are_eaten(rt: HostRuntime) -> Result<(), Fail> {
+    let mut reader = Reader::initialize(rt.alloc(), "abcabcd", true, false)?;
     assert_eq!(rt;
-        (since, two, three, four),
-        (1, [false, true], [false, true], [false, true])
+        eaten(&mut reader),
+        ([1, 3, 7], [false, true, false, true, false, true])
     );
-    assert_eq!(rt; (after_three, reader.offset()), (3, 7));
     Ok(())
+}
+
+/// Of a reader of `ab`: the offset after the first unit, the place after the last and the place past the end; and what is eaten and contained.
+fn eaten_one_by_one(reader: &mut Reader<'_>) -> ([(usize, u32); 2], [u32; 1], [bool; 5]) {
+    let start = reader.checkpoint();
+    let first = reader.eat('a');
+    let after_first = reader.offset();
+    let again = reader.eat('a');
+    let second = reader.peek2().is_none() & reader.eat('b');
+    reader.advance();
+    let end = reader.checkpoint();
+    reader.rewind(start);
+    reader.skip(3);
+    let past_the_end = reader.checkpoint();
+    let nothing = reader.peek().is_none();
+    let contained = reader.contains('a') & !reader.contains('c');
+    (
+        [end, past_the_end],
+        [after_first],
+        [first, again, second, nothing, contained],
+    )
 }
 
 #[test]
 fn one_by_one(rt: HostRuntime) -> Result<(), Fail> {
     let mut reader = Reader::initialize(rt.alloc(), "ab", false, false)?;
-    let start = reader.checkpoint();
-    let first = (reader.eat('a'), reader.offset());
-    let again = (reader.eat('a'), reader.peek2(), reader.eat('b'));
-    reader.advance();
-    let end = reader.checkpoint();
-    reader.rewind(start);
-    reader.skip(3);
-    let past_the_end = (reader.checkpoint(), reader.peek());
-    let contained = [reader.contains('a'), reader.contains('c')];
     assert_eq!(rt;
-        (first, again, end, past_the_end, contained),
-        (
-            (true, 1),
-            (false, None, true),
-            (2, 2),
-            ((2, 2), None),
-            [true, false]
-        )
+        eaten_one_by_one(&mut reader),
+        ([(2, 2), (2, 2)], [1], [true, false, true, true, true])
     );
     Ok(())
 }
 
-#[test]
-fn ascii_from_its_bytes(rt: HostRuntime) -> Result<(), Fail> {
-    let text = short("a-\u{7F}")?;
-    if !text.is_ascii() {
-        return Err(Fail::new("past ASCII"));
+/// Of a reader of the bytes of `a-` and U+007F: the unit at its beginning, what is eaten, and how many units stand ahead then, and which is the first; the
+/// second place, and the offset of the end.
+fn ascii(text: &str) -> Option<([u32; 3], [bool; 4], (usize, (usize, u32)))> {
+    if text.len() > 1000 || !text.is_ascii() {
+        return None;
     }
     let mut reader = Reader::of_ascii(text);
-    let eaten = (reader.peek(), [reader.eat('-'), reader.eat('a')]);
+    let first = reader.peek()?;
+    let eaten = [reader.eat('-'), reader.eat('a')];
     let ahead = reader.ahead();
-    let next = (ahead.len(), ahead.first(), ahead.escape_kind());
+    let (count, next) = (ahead.len(), ahead.first()?);
+    let is_raw = ahead.escape_kind() == EscapeKind::None;
     let second = reader.checkpoint();
     reader.skip(7);
-    let end = (reader.offset(), reader.ahead().is_empty());
-    assert_eq!(rt;
-        (eaten, next, second, end),
-        (
-            (Some(0x61), [false, true]),
-            (2, Some(0x2D), EscapeKind::None),
-            (1, 1),
-            (3, true)
-        )
-    );
-    Ok(())
+    let is_empty = reader.ahead().is_empty();
+    Some((
+        [first, next, reader.offset()],
+        [eaten[0], eaten[1], is_raw, is_empty],
+        (count, second),
+    ))
+}
+
+#[test]
+fn ascii_from_its_bytes(rt: HostRuntime) {
+    let wanted = ([0x61, 0x2D, 3], [false, true, true, true], (2, (1, 1)));
+    assert_eq!(rt; ascii("a-\u{7F}"), Some(wanted));
+}
+
+/// Of a reader before the second of three units, U+1F600: how many stand ahead, in the first of them and after both; where each ends, and the values of both;
+/// and whether the third stands next.
+fn ahead(reader: &Reader<'_>) -> Option<([usize; 3], [u32; 4], bool)> {
+    let ahead = reader.ahead();
+    if ahead.len() < 2 {
+        return None;
+    }
+    let ends = [ahead.end_of(1), ahead.end_of(2)];
+    let last = ahead.from(1).first()?;
+    let is_next = ahead.after('b').is_some();
+    let (value, following) = ahead.split_first()?;
+    let left = following.after('b')?.len();
+    Some((
+        [ahead.items().len(), ahead.front(1).len(), left],
+        [ends[0], ends[1], value, last],
+        is_next,
+    ))
 }
 
 #[test]
 fn units_ahead(rt: HostRuntime) -> Result<(), Fail> {
     let mut reader = Reader::initialize(rt.alloc(), "é\u{1F600}b", true, false)?;
     reader.advance();
-    let ahead = reader.ahead();
-    if ahead.len() < 2 {
-        return Err(Fail::new("too few"));
-    }
-    let items = (ahead.items().len(), ahead.end_of(1), ahead.end_of(2));
-    let parts = (ahead.from(1).first(), ahead.front(1).len());
-    let after_b = ahead.after('b').is_none();
-    let Some((value, following)) = ahead.split_first() else {
-        return Err(Fail::new("no unit"));
-    };
-    let left = following.after('b').map(|it| it.len());
     assert_eq!(rt;
-        (items, parts, after_b, value, left),
-        ((2, 6, 7), (Some(0x62), 1), true, 0x1F600, Some(0))
+        ahead(&reader),
+        Some(([2, 1, 0], [6, 7, 0x1F600, 0x62], false))
     );
     Ok(())
 }
 
-/// Asked are a place and a source text. The answer is the source text before that place, in quotes.
-struct TextBefore;
-
-impl Call for TextBefore {
-    fn answer(&self, alloc: Global, asked: &str) -> Result<String, Fail> {
-        let (place, text) = asked.split_once(' ').ok_or("no place")?;
-        let place = place.parse::<usize>().ok().ok_or("no number")?;
-        let mut reader = Reader::initialize(alloc, short(text)?, false, false)?;
-        let start = reader.offset();
-        reader.skip(place);
-        let before = reader.str(alloc, start, reader.offset())?;
-        Ok(format!(in alloc; "'{}'", before.as_str())?)
+/// The source text before a place.
+fn text_before(alloc: Global, text: &str, place: usize) -> Option<Text> {
+    if text.len() > 1000 {
+        return None;
     }
+    let mut reader = Reader::initialize(alloc, text, false, false).ok()?;
+    let start = reader.offset();
+    reader.skip(place);
+    reader.str(alloc, start, reader.offset()).ok()
 }
 
 #[test]
 fn texts_between_offsets(rt: HostRuntime) -> Result<(), Fail> {
-    let rows = "0 ab => ''
-2 ab => 'ab'
-2 é\u{20AC}\u{1F600} => 'é\u{20AC}'
-4 é\u{20AC}\u{1F600} => 'é\u{20AC}\u{1F600}'";
-    agree(rt.alloc(), &TextBefore, rows)
+    for (place, text, wanted) in [
+        (0, "ab", ""),
+        (2, "ab", "ab"),
+        (2, "é\u{20AC}\u{1F600}", "é\u{20AC}"),
+        (4, "é\u{20AC}\u{1F600}", "é\u{20AC}\u{1F600}"),
+    ] {
+        let before = text_before(rt.alloc(), text, place).ok_or(text)?;
+        assert_eq!(rt; before.as_str(), wanted);
+    }
+    Ok(())
 }
 
-/// Whether a character is a line terminator, a SingleEscapeCharacter and a NonEscapeCharacter.
-fn kinds(ch: char) -> [bool; 3] {
-    [
-        is_line_terminator(ch),
-        is_single_escape_character(ch),
-        is_non_escape_character(ch),
-    ]
+/// The first character that is otherwise: whether it is a line terminator, a SingleEscapeCharacter and a NonEscapeCharacter.
+fn other(characters: &str, wanted: [bool; 3]) -> Option<char> {
+    for ch in characters.chars() {
+        let kinds = [
+            is_line_terminator(ch),
+            is_single_escape_character(ch),
+            is_non_escape_character(ch),
+        ];
+        if kinds != wanted {
+            return Some(ch);
+        }
+    }
+    None
 }
 
 #[test]
@@ -231,11 +279,11 @@ fn characters_of_string_literals(rt: HostRuntime) {
             [false, false, true],
         ),
     ] {
-        let other = characters.chars().find(|ch| kinds(*ch) != wanted);
-        assert_eq!(rt; other, None);
+        assert_eq!(rt; other(characters, wanted), None);
     }
     assert_eq!(rt;
-        ([LF, CR, LS, PS], EscapeKind::default()),
-        (['\u{A}', '\u{D}', '\u{2028}', '\u{2029}'], EscapeKind::None)
+        [LF, CR, LS, PS],
+        ['\u{A}', '\u{D}', '\u{2028}', '\u{2029}']
     );
+    assert!(rt; EscapeKind::default() == EscapeKind::None);
 }
