@@ -1,11 +1,5 @@
-use crate::searches::found;
-use std::test::Fail;
-
-#[test]
-fn groups_and_references(rt: HostRuntime) -> Result<(), Fail> {
-    found(
-        rt.alloc(),
-        " ~ (a)(b) ~ 1000 ~ ab => 0..2 0..1 1..2
+/// Groups and references to them.
+pub const GROUPS_AND_REFERENCES: &str = r" ~ (a)(b) ~ 1000 ~ ab => 0..2 0..1 1..2
  ~ (a)(b) ~ 1000 ~ xab => 1..3 1..2 2..3
  ~ (?:a)(b)? ~ 1000 ~ a => 0..1 -
  ~ (?:a)(b)? ~ 1000 ~ ab => 0..2 1..2
@@ -17,23 +11,18 @@ fn groups_and_references(rt: HostRuntime) -> Result<(), Fail> {
  ~ ((a)|b)* ~ 1000 ~ ba => 0..2 1..2 1..2
  ~ (?:(a)|b)* ~ 1000 ~ ab => 0..2 -
  ~ (?:(a)|b)* ~ 1000 ~ aba => 0..3 2..3
- ~ (?<x>a)\\k<x> ~ 1000 ~ aa => 0..2 0..1
- ~ (?<x>a)\\k<x> ~ 1000 ~ ab => none
- ~ \\1(a) ~ 1000 ~ aa => 0..1 0..1
- ~ \\1(a) ~ 1000 ~ a => 0..1 0..1
- ~ (a)\\1 ~ 1000 ~ aab => 0..2 0..1
- ~ (a)?\\1b ~ 1000 ~ b => 0..1 -
- ~ (a)?\\1b ~ 1000 ~ aab => 0..3 0..1
- ~ (?<y>a)?\\k<y> ~ 1000 ~ aa => 0..2 0..1
- ~ (?<y>a)?\\k<y> ~ 1000 ~ b => 0..0 -",
-    )
-}
+ ~ (?<x>a)\k<x> ~ 1000 ~ aa => 0..2 0..1
+ ~ (?<x>a)\k<x> ~ 1000 ~ ab => none
+ ~ \1(a) ~ 1000 ~ aa => 0..1 0..1
+ ~ \1(a) ~ 1000 ~ a => 0..1 0..1
+ ~ (a)\1 ~ 1000 ~ aab => 0..2 0..1
+ ~ (a)?\1b ~ 1000 ~ b => 0..1 -
+ ~ (a)?\1b ~ 1000 ~ aab => 0..3 0..1
+ ~ (?<y>a)?\k<y> ~ 1000 ~ aa => 0..2 0..1
+ ~ (?<y>a)?\k<y> ~ 1000 ~ b => 0..0 -";
 
-#[test]
-fn repetitions(rt: HostRuntime) -> Result<(), Fail> {
-    found(
-        rt.alloc(),
-        " ~ a* ~ 1000 ~ aaa => 0..3
+/// Repetitions.
+pub const REPETITIONS: &str = r" ~ a* ~ 1000 ~ aaa => 0..3
  ~ a* ~ 1000 ~ b => 0..0
  ~ a*? ~ 1000 ~ aaa => 0..0
  ~ a*?b ~ 1000 ~ aab => 0..3
@@ -51,15 +40,10 @@ fn repetitions(rt: HostRuntime) -> Result<(), Fail> {
  ~ (a|ab)(c|bcd)(d*) ~ 1000 ~ abcd => 0..4 0..1 1..4 4..4
  ~ (?:a{1,2}){2} ~ 1000 ~ aaa => 0..3
  ~ (a+)+b ~ 1000 ~ aaab => 0..4 0..3
- ~ (a+)+b ~ 1000 ~ aaac => none",
-    )
-}
+ ~ (a+)+b ~ 1000 ~ aaac => none";
 
-#[test]
-fn bounded_repetitions(rt: HostRuntime) -> Result<(), Fail> {
-    found(
-        rt.alloc(),
-        " ~ a{2} ~ 1000 ~ aaa => 0..2
+/// Repetitions with bounds.
+pub const BOUNDED_REPETITIONS: &str = r" ~ a{2} ~ 1000 ~ aaa => 0..2
  ~ a{2} ~ 1000 ~ a => none
  ~ a{2,} ~ 1000 ~ aaaa => 0..4
  ~ a{2,} ~ 1000 ~ a => none
@@ -76,15 +60,10 @@ fn bounded_repetitions(rt: HostRuntime) -> Result<(), Fail> {
  ~ (?:a|){3} ~ 1000 ~ a => 0..1
  ~ (?:a|){3} ~ 1000 ~ aaaa => 0..3
  ~ (a*){2,3} ~ 1000 ~ aa => 0..2 2..2
- ~ (a*){2,3} ~ 1000 ~  => 0..0 0..0",
-    )
-}
+ ~ (a*){2,3} ~ 1000 ~  => 0..0 0..0";
 
-#[test]
-fn lookaheads(rt: HostRuntime) -> Result<(), Fail> {
-    found(
-        rt.alloc(),
-        " ~ (?=a) ~ 1000 ~ ba => 1..1
+/// Lookaheads.
+pub const LOOKAHEADS: &str = r" ~ (?=a) ~ 1000 ~ ba => 1..1
  ~ (?=a) ~ 1000 ~ b => none
  ~ (?=(a))b|a ~ 1000 ~ a => 0..1 -
  ~ (?!a) ~ 1000 ~ a => 1..1
@@ -98,15 +77,10 @@ fn lookaheads(rt: HostRuntime) -> Result<(), Fail> {
  ~ (?!(?!a))a ~ 1000 ~ a => 0..1
  ~ (?!(?!a))a ~ 1000 ~ b => none
  ~ (?=(a)(?=b)) ~ 1000 ~ ab => 0..0 0..1
- ~ ((?=(a+))ab) ~ 1000 ~ aab => 1..3 1..3 1..2",
-    )
-}
+ ~ ((?=(a+))ab) ~ 1000 ~ aab => 1..3 1..3 1..2";
 
-#[test]
-fn lookbehinds(rt: HostRuntime) -> Result<(), Fail> {
-    found(
-        rt.alloc(),
-        " ~ (?<=a)b ~ 1000 ~ ab => 1..2
+/// Lookbehinds.
+pub const LOOKBEHINDS: &str = r" ~ (?<=a)b ~ 1000 ~ ab => 1..2
  ~ (?<=a)b ~ 1000 ~ bb => none
  ~ (?<=a)b ~ 1000 ~ b => none
  ~ (?<!a)b ~ 1000 ~ ab => none
@@ -121,42 +95,32 @@ fn lookbehinds(rt: HostRuntime) -> Result<(), Fail> {
  ~ (?<=(?:a|b)+)c ~ 1000 ~ abc => 2..3
  ~ (?<=(?<!a)b)c ~ 1000 ~ abc => none
  ~ (?<=(?<!a)b)c ~ 1000 ~ bc => 1..2
- ~ (?<=^\\w+)d ~ 1000 ~ abcd => 3..4
+ ~ (?<=^\w+)d ~ 1000 ~ abcd => 3..4
  ~ (?<=$abc)def ~ 1000 ~ abcdef => none
- ~ (?<=\\Bb)c ~ 1000 ~ abc => 2..3
- ~ (?<=\\Bb)c ~ 1000 ~ bc => none
+ ~ (?<=\Bb)c ~ 1000 ~ abc => 2..3
+ ~ (?<=\Bb)c ~ 1000 ~ bc => none
 s ~ (?<=.)b ~ 1000 ~ «A»b => 1..2
 m ~ (?<=^)b ~ 1000 ~ a«A»b => 2..3
  ~ (?<=[^a])b ~ 1000 ~ ab => none
- ~ (?<=[^a])b ~ 1000 ~ cb => 1..2",
-    )
-}
+ ~ (?<=[^a])b ~ 1000 ~ cb => 1..2";
 
-#[test]
-fn captures_in_lookbehinds(rt: HostRuntime) -> Result<(), Fail> {
-    found(
-        rt.alloc(),
-        " ~ (?<=(a)(b))c ~ 1000 ~ abc => 2..3 0..1 1..2
- ~ (?<=(\\d+)(\\d+))$ ~ 1000 ~ 1053 => 4..4 0..1 1..4
- ~ (?<=\\1(a))b ~ 1000 ~ aab => 2..3 1..2
- ~ (?<=\\1(a))b ~ 1000 ~ ab => none
- ~ (?<=(a)\\1)b ~ 1000 ~ aab => 2..3 1..2
- ~ (?<=(a)\\1)b ~ 1000 ~ ab => 1..2 0..1
+/// Groups in lookbehinds.
+pub const CAPTURES_IN_LOOKBEHINDS: &str = r" ~ (?<=(a)(b))c ~ 1000 ~ abc => 2..3 0..1 1..2
+ ~ (?<=(\d+)(\d+))$ ~ 1000 ~ 1053 => 4..4 0..1 1..4
+ ~ (?<=\1(a))b ~ 1000 ~ aab => 2..3 1..2
+ ~ (?<=\1(a))b ~ 1000 ~ ab => none
+ ~ (?<=(a)\1)b ~ 1000 ~ aab => 2..3 1..2
+ ~ (?<=(a)\1)b ~ 1000 ~ ab => 1..2 0..1
  ~ (?<=(a+?)(a*))b ~ 1000 ~ aaab => 3..4 0..1 1..3
  ~ (?<=([abc]+)([bc]+))$ ~ 1000 ~ abcb => 4..4 0..1 1..4
  ~ (?<!(a))b ~ 1000 ~ ab => none
  ~ (?<!(a))b ~ 1000 ~ cb => 1..2 -
- ~ (?<=(?<a>\\w){3})f ~ 1000 ~ abcdef => 5..6 2..3
- ~ (?<=a(?=([^a]{2})d)\\w{3})\\w\\1 ~ 1000 ~ abcdbc => none
- ~ (?<a>.)(?<=\\k<a>)b ~ 1000 ~ ab => 0..2 0..1",
-    )
-}
+ ~ (?<=(?<a>\w){3})f ~ 1000 ~ abcdef => 5..6 2..3
+ ~ (?<=a(?=([^a]{2})d)\w{3})\w\1 ~ 1000 ~ abcdbc => none
+ ~ (?<a>.)(?<=\k<a>)b ~ 1000 ~ ab => 0..2 0..1";
 
-#[test]
-fn nothing_and_choices(rt: HostRuntime) -> Result<(), Fail> {
-    found(
-        rt.alloc(),
-        " ~ (?:) ~ 1000 ~ x => 0..0
+/// Nothing, and choices.
+pub const CHOICES: &str = r" ~ (?:) ~ 1000 ~ x => 0..0
  ~ (?:) ~ 1000 ~  => 0..0
  ~  ~ 1000 ~ x => 0..0
  ~ a||b ~ 1000 ~ b => 0..0
@@ -165,6 +129,4 @@ fn nothing_and_choices(rt: HostRuntime) -> Result<(), Fail> {
  ~ (x)?(y)? ~ 1000 ~ y => 0..1 - 0..1
  ~ (?:(x)|(y))* ~ 1000 ~ xy => 0..2 - 1..2
  ~ (a(?=(b))|ab)* ~ 1000 ~ abab => 0..1 0..1 1..2
- ~ (?:(?:a|b)*c)?d ~ 1000 ~ abd => 2..3",
-    )
-}
+ ~ (?:(?:a|b)*c)?d ~ 1000 ~ abd => 2..3";

@@ -20,4 +20,4 @@ mod searches;
 #[cfg(test)]
 mod starts;
 #[cfg(test)]
-mod units;
+mod tables;
