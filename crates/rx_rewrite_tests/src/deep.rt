@@ -1,86 +1,73 @@
-ghost use Rattle.std.specs.Prelude.{◌≤◌, IfOk, length};
-
-use crate::rewritten::rewritten_text;
-use rx_rewrite::Rewrites;
-use std::alloc::Global;
+//! Patterns that are deep or long.
+use crate::rewritten::RewriteCall;
+use rx_rows::agree;
+use std::alloc::{AllocError, Global};
 use std::test::Fail;
 
-/// A text that is not very long.
-pub fn medium(text: &str) -> Result<&str, Fail>
-    ensures { IfOk result (λ it. length it.now ≤ 10000000) }
-{
-    if text.len() > 10_000_000 {
-        return Err(Fail::new("a very long text"));
-    }
-    Ok(text)
+/// A pattern by what stands so many times in front, in the middle, and so many times at the back.
+fn nested(alloc: Global, depth: usize, parts: [&str; 3]) -> Result<String, AllocError> {
+    let [front, middle, back] = parts;
+    let front = front.repeat(alloc, depth)?;
+    let back = back.repeat(alloc, depth)?;
+    format!(in alloc; "{front}{middle}{back}")
 }
 
-/// A text so many times, another text, and a third so many times.
-fn nested(
+/// A row of a deep pattern, with what it is rewritten to.
+fn row(
     alloc: Global,
-    count: u32,
-    front: &str,
-    middle: &str,
-    back: &str,
-) -> Result<String, Fail> {
-    let mut text = String::new(alloc);
-    for _ in 0..count {
-        text.push_str(front)?;
+    flags: &str,
+    depth: usize,
+    pattern: [&str; 3],
+    wanted: [&str; 3],
+) -> Result<String, AllocError> {
+    let pattern = nested(alloc, depth, pattern)?;
+    let wanted = nested(alloc, depth, wanted)?;
+    format!(in alloc; "{flags} ~ {pattern} => {wanted}")
+}
+
+#[test]
+fn deep_patterns_need_no_deep_stack(rt: HostRuntime) -> Result<(), Fail> {
+    for (flags, depth, pattern, wanted) in [
+        ("s", 20_000, ["(?:", ".", ")"], ["(?:", "[^]", ")"]),
+        (
+            "",
+            10_000,
+            ["(?-s:(?s:", ".", ")*)"],
+            ["(?:(?:", "[^]", ")*)"],
+        ),
+        ("v", 20_000, ["[a", "b", "]"], ["[a", "b", "]"]),
+    ] {
+        let row = row(rt.alloc(), flags, depth, pattern, wanted)?;
+        agree(rt.alloc(), &RewriteCall, &row)?;
     }
-    text.push_str(middle)?;
-    for _ in 0..count {
-        text.push_str(back)?;
+    Ok(())
+}
+
+/// A group with a reference to it, by name or by number.
+fn group(alloc: Global, number: u32, by_name: bool) -> Result<String, AllocError> {
+    if by_name {
+        format!(in alloc; "(?<n{number}>x)\\k<n{number}>")
+    } else {
+        format!(in alloc; "(x)\\{number}")
+    }
+}
+
+/// Groups with a reference to each.
+fn groups(alloc: Global, by_name: bool) -> Result<String, AllocError> {
+    let mut text = String::new(alloc);
+    for number in 1..10_000 {
+        text.push_str(&group(alloc, number, by_name)?)?;
     }
     Ok(text)
-}
-
-#[test]
-fn deep_groups_need_no_deep_stack(rt: HostRuntime) -> Result<(), Fail> {
-    let alloc = rt.alloc();
-    let pattern = nested(alloc, 20_000, "(?:", ".", ")")?;
-    let wanted = nested(alloc, 20_000, "(?:", "[^]", ")")?;
-    let text = rewritten_text(alloc, pattern.as_str(), "s", Rewrites::ALL)?;
-    assert_eq!(rt; text.as_str(), wanted.as_str());
-    Ok(())
-}
-
-#[test]
-fn deep_modifiers_need_no_deep_stack(rt: HostRuntime) -> Result<(), Fail> {
-    let alloc = rt.alloc();
-    let pattern = nested(alloc, 10_000, "(?-s:(?s:", ".", ")*)")?;
-    let wanted = nested(alloc, 10_000, "(?:(?:", "[^]", ")*)")?;
-    let text = rewritten_text(alloc, pattern.as_str(), "", Rewrites::ALL)?;
-    assert_eq!(rt; text.as_str(), wanted.as_str());
-    Ok(())
-}
-
-#[test]
-fn deep_classes_need_no_deep_stack(rt: HostRuntime) -> Result<(), Fail> {
-    let alloc = rt.alloc();
-    let pattern = nested(alloc, 20_000, "[a", "b", "]")?;
-    let text = rewritten_text(alloc, pattern.as_str(), "v", Rewrites::ALL)?;
-    assert_eq!(rt; text.as_str(), pattern.as_str());
-    Ok(())
-}
-
-/// Groups with names and a reference to each, and the same with numbers.
-fn many_names(alloc: Global, count: u32) -> Result<(String, String), Fail> {
-    let mut named = String::new(alloc);
-    let mut numbered = String::new(alloc);
-    for i in 1..count {
-        let name = format!(in alloc; "(?<n{i}>x)\\k<n{i}>")?;
-        named.push_str(name.as_str())?;
-        let number = format!(in alloc; "(x)\\{i}")?;
-        numbered.push_str(number.as_str())?;
-    }
-    Ok((named, numbered))
 }
 
 #[test]
 fn many_names_take_no_long_time(rt: HostRuntime) -> Result<(), Fail> {
     let alloc = rt.alloc();
-    let (named, numbered) = many_names(alloc, 10_000)?;
-    let text = rewritten_text(alloc, named.as_str(), "", Rewrites::ALL)?;
-    assert_eq!(rt; text.as_str(), numbered.as_str());
-    Ok(())
+    let (names, numbers) = (groups(alloc, true)?, groups(alloc, false)?);
+    agree(
+        alloc,
+        &RewriteCall,
+        &format!(in alloc; " ~ {names} => {numbers}")?,
+    )
 }

@@ -1,37 +1,24 @@
 use crate::rewritten::read;
+use rx_base::Span;
 use rx_rewrite::modifiers_left;
-use rx_rows::{Call, agree};
-use std::alloc::Global;
 use std::test::Fail;
 
-/// The span of the first modifiers that are left.
-#[derive(Clone, Copy)]
-struct LeftCall;
-
-impl Call for LeftCall {
-    fn answer(&self, alloc: Global, asked: &str) -> Result<String, Fail> {
-        let (pattern, _) = read(alloc, asked, "v")?;
-        match modifiers_left(alloc, &pattern)? {
-            None => Ok(format!(in alloc; "none")?),
-            Some(span) => Ok(format!(in alloc; "{}..{}", span.start, span.end)?),
-        }
-    }
-}
-
 #[test]
-fn modifiers_with_i_are_left(rt: HostRuntime) -> Result<(), Fail> {
-    agree(
-        rt.alloc(),
-        &LeftCall,
-        "(?i:a) => 2..3
-(?-i:a) => 2..4
-(?s:a) => none
-(?:a) => none
-a => none
-(?ms-i:a) => 2..6
-(?m:(?i:a)) => 6..7
-(?i:(?-i:a)) => 2..3
-(?s:b)(?-i:a)(?i:c) => 8..10
-(?<=x(?m:y|(?i:z))) => 13..14",
-    )
+fn the_first_modifiers_with_i_are_left(rt: HostRuntime) -> Result<(), Fail> {
+    for (text, wanted) in [
+        ("(?i:a)", Some(Span::new(2, 3))),
+        ("(?-i:a)", Some(Span::new(2, 4))),
+        ("(?s:a)", None),
+        ("(?:a)", None),
+        ("a", None),
+        ("(?ms-i:a)", Some(Span::new(2, 6))),
+        ("(?m:(?i:a))", Some(Span::new(6, 7))),
+        ("(?i:(?-i:a))", Some(Span::new(2, 3))),
+        ("(?s:b)(?-i:a)(?i:c)", Some(Span::new(8, 10))),
+        ("(?<=x(?m:y|(?i:z)))", Some(Span::new(13, 14))),
+    ] {
+        let (pattern, _) = read(rt.alloc(), text, "v").ok_or(text)?;
+        assert_eq!(rt; modifiers_left(rt.alloc(), &pattern)?, wanted, "{text}");
+    }
+    Ok(())
 }

@@ -1,91 +1,108 @@
-ghost use Rattle.std.specs.Prelude.{◌≡◌, true, IfOk};
+//! How a pattern of a row is read, rewritten and spelled.
+ghost use Rattle.std.specs.Prelude.{◌≡◌, true, IfSome};
 ghost use Rattle.rx_model.specs.Trees.Early.{IsEarly};
 ghost use Rattle.rx_rewrite.specs.Answers.{rules_of};
 
-use crate::deep::medium;
 use rx_ast::Pattern;
 use rx_rewrite::{RewriteFault, Rewrites, rewrite};
-use rx_rows::{Call, agree, short, text_of};
+use rx_rows::{Call, text_of};
 use rx_tools::{Form, Mode, Options, canonical_text, read_pattern};
 use rx_trace::MatchFlags;
 use std::alloc::Global;
 use std::test::Fail;
 
-/// What is asked of a rewriting: the flags and the pattern, with ` ~ ` between; and by their letters what is to go, `n`, `s`, `m` and `p`, if not all.
+/// Asked are the flags and the pattern, with ` ~ ` between; and by their letters what is to go, `n`, `s`, `m` and `p`, if not all. The answer is the spelling of
+/// the pattern that is rewritten. It must stay when it is rewritten once more, under the flags that are left; else both are answered.
 #[derive(Clone, Copy)]
-struct Asked<'a> {
-    flags: &'a str,
-    pattern: &'a str,
-    what: &'a str,
-}
-
-impl<'a> Asked<'a> {
-    fn of(asked: &'a str) -> Result<Asked<'a>, Fail> {
-        let mut parts = asked.split(" ~ ");
-        Ok(Asked {
-            flags: parts.next().ok_or("no flags")?,
-            pattern: parts.next().ok_or("no pattern")?,
-            what: parts.next().unwrap_or("nsmp"),
-        })
-    }
-
-    fn what(&self) -> Rewrites {
-        Rewrites {
-            named_capture_groups: self.what.contains('n'),
-            dot_all: self.what.contains('s'),
-            multiline: self.what.contains('m'),
-            pattern_modifiers: self.what.contains('p'),
-        }
-    }
-}
-
-/// The spelling of a pattern that is rewritten. It must stay when it is rewritten once more, under the flags that are left; else both are answered.
-#[derive(Clone, Copy)]
-struct RewriteCall;
+pub struct RewriteCall;
 
 impl Call for RewriteCall {
     fn answer(&self, alloc: Global, asked: &str) -> Result<String, Fail> {
-        let asked = Asked::of(asked)?;
-        let pattern = text_of(alloc, asked.pattern)?.ok_or("a pattern")?;
-        let what = asked.what();
-        let once = rewritten_text(alloc, pattern.as_str(), asked.flags, what)?;
-        if once.starts_with("twice") {
-            return Ok(once);
-        }
-        let flags = flags_left(alloc, asked.flags, what)?;
-        let again = rewritten_text(alloc, once.as_str(), flags.as_str(), what)?;
-        if again.as_str() != once.as_str() {
-            return Ok(format!(in alloc; "{once}, and then {again}")?);
-        }
-        Ok(once)
+        Ok(rewritten_twice(alloc, asked).ok_or(asked)?)
     }
 }
 
-/// The flags that a rewritten pattern is matched with.
-fn flags_left(alloc: Global, flags: &str, what: Rewrites) -> Result<String, Fail> {
-    let mut left = String::new(alloc);
-    for flag in flags.chars() {
-        let goes = (flag == 'm' && what.multiline) || (flag == 's' && what.dot_all);
-        if !goes {
-            left.push(flag)?;
-        }
-    }
-    Ok(left)
+/// The flags of a pattern, and what of it is to go.
+#[derive(Clone, Copy)]
+struct Question<'a> {
+    flags: &'a str,
+    match_flags: MatchFlags,
+    what: Rewrites,
 }
 
-/// A pattern that is read, and its mode.
-pub fn read(alloc: Global, pattern: &str, flags: &str) -> Result<(Pattern, Mode), Fail>
-    ensures { IfOk result (λ it. IsEarly (rules_of (true, true)) it.0) }
+impl<'a> Question<'a> {
+    fn of(flags: &'a str, what: &str) -> Question<'a> {
+        Question {
+            flags,
+            match_flags: MatchFlags {
+                ignore_case: flags.contains('i'),
+                multiline: flags.contains('m'),
+                dot_all: flags.contains('s'),
+                unicode_mode: false,
+            },
+            what: Rewrites {
+                named_capture_groups: what.contains('n'),
+                dot_all: what.contains('s'),
+                multiline: what.contains('m'),
+                pattern_modifiers: what.contains('p'),
+            },
+        }
+    }
+
+    /// The same of a pattern that is rewritten.
+    fn again(self) -> Question<'a> {
+        let Question {
+            match_flags,
+            what,
+            ..
+        } = self;
+        Question {
+            match_flags: MatchFlags {
+                multiline: match_flags.multiline & !what.multiline,
+                dot_all: match_flags.dot_all & !what.dot_all,
+                ..match_flags
+            },
+            ..self
+        }
+    }
+}
+
+/// A part of a row, or what stands for it where the row has no such part.
+fn part<'a>(row: &'a str, at: usize, absent: &'a str) -> &'a str {
+    row.split(" ~ ").nth(at).unwrap_or(absent)
+}
+
+/// The answer, or none where the pattern is not read or there is no memory.
+fn rewritten_twice(alloc: Global, asked: &str) -> Option<String> {
+    let row = text_of(alloc, asked).ok()??;
+    let question = Question::of(part(&row, 0, ""), part(&row, 2, "nsmp"));
+    let once = rewritten_text(alloc, part(&row, 1, ""), question)?;
+    if once.starts_with("twice") {
+        return Some(once);
+    }
+    stays(alloc, once, question.again())
+}
+
+/// The text of a pattern, and if it is rewritten to another, that as well.
+fn stays(alloc: Global, text: String, question: Question<'_>) -> Option<String> {
+    let again = rewritten_text(alloc, &text, question)?;
+    if again.as_str() == text.as_str() {
+        return Some(text);
+    }
+    format!(in alloc; "{text}, and then {again}").ok()
+}
+
+/// A pattern that is read, with no very long text, and its mode.
+pub fn read(alloc: Global, pattern: &str, flags: &str) -> Option<(Pattern, Mode)>
+    ensures { IfSome result (λ it. IsEarly (rules_of (true, true)) it.0) }
 {
-    match read_pattern(
-        alloc,
-        Form::Literal,
-        medium(pattern)?,
-        Some(short(flags)?),
-        Options::default(),
-    ) {
-        Ok(read) => Ok(read),
-        Err(fault) => Err(Fail::from(fault)),
+    if pattern.len().max(flags.len()) > 10_000_000 {
+        return None;
+    }
+    let options = Options::default();
+    match read_pattern(alloc, Form::Literal, pattern, Some(flags), options) {
+        Ok(read) => Some(read),
+        Err(_) => None,
     }
 }
 
@@ -100,44 +117,29 @@ fn modes_of(mode: Mode) -> (bool, bool)
     }
 }
 
-/// The spelling of a pattern that is read and rewritten.
-pub fn rewritten_text(
-    alloc: Global,
-    pattern: &str,
-    flags: &str,
-    what: Rewrites,
-) -> Result<String, Fail> {
-    let (read, mode) = read(alloc, pattern, flags)?;
+/// The spelling of a pattern that is read and rewritten; or the spans of two groups of one name.
+fn rewritten_text(alloc: Global, pattern: &str, question: Question<'_>) -> Option<String> {
+    let (read, mode) = read(alloc, pattern, question.flags)?;
     let modes = modes_of(mode);
-    let match_flags = MatchFlags {
-        ignore_case: flags.contains('i'),
-        multiline: flags.contains('m'),
-        dot_all: flags.contains('s'),
+    let flags = MatchFlags {
         unicode_mode: modes.0,
+        ..question.match_flags
     };
-    let answer = rewrite(alloc, &read, modes, (true, true), match_flags, what);
-    describe(alloc, answer, mode)
+    let answer = rewrite(alloc, &read, modes, (true, true), flags, question.what);
+    told(alloc, answer, mode)
 }
 
-fn describe(
-    alloc: Global,
-    answer: Result<Pattern, RewriteFault>,
-    mode: Mode,
-) -> Result<String, Fail> {
+fn told(alloc: Global, answer: Result<Pattern, RewriteFault>, mode: Mode) -> Option<String> {
     match answer {
         Ok(pattern) => {
-            let text = canonical_text(alloc, &pattern, mode)?;
-            Ok(format!(in alloc; "{}", text.as_str())?)
+            let text = canonical_text(alloc, &pattern, mode).ok()?;
+            String::from_str(alloc, text.as_str()).ok()
         }
-        Err(RewriteFault::NameUsedTwice { first, second }) => Ok(format!(in alloc;
+        Err(RewriteFault::NameUsedTwice { first, second }) => format!(in alloc;
             "twice {}..{} {}..{}",
             first.start, first.end, second.start, second.end
-        )?),
-        Err(RewriteFault::OutOfMemory) => Err(Fail::new("no memory")),
+        )
+        .ok(),
+        Err(RewriteFault::OutOfMemory) => None,
     }
-}
-
-/// Compares what a rewriting answers in each row.
-pub fn rewrites(alloc: Global, rows: &str) -> Result<(), Fail> {
-    agree(alloc, &RewriteCall, rows)
 }
