@@ -12,7 +12,7 @@ use rx_tables::is_decimal_digit;
 use rx_units::{Ahead, Unit};
 
 /// Decimal digits, read as a number of 64 bits.
-#[derive(Clone, Copy, Debug)]
+#[derive(Clone, Copy)]
 enum DigitsFound {
     /// The number of all digits that stand next, and how many they are, which may be none.
     Digits { value: u64, count: usize },
@@ -21,7 +21,7 @@ enum DigitsFound {
 }
 
 /// What a quantifier's prefix (QuantifierPrefix, 22.2.1) was read as. Lengths are in units.
-#[derive(Clone, Copy, Debug)]
+#[derive(Clone, Copy)]
 pub enum CountsFound {
     Counts {
         min: u64,

@@ -4,7 +4,7 @@ use rx_ast::{
 };
 
 /// A term that is one token, but for a reference by name.
-#[derive(Clone, Copy, Debug)]
+#[derive(Clone, Copy)]
 pub enum Leaf {
     Boundary(BoundaryAssertionKind),
     Character { kind: CharacterKind, value: u32 },
@@ -14,7 +14,7 @@ pub enum Leaf {
 }
 
 /// What a group or a look-around begins with.
-#[derive(Clone, Copy, Debug)]
+#[derive(Clone, Copy)]
 pub enum OpenerFound {
     /// `(`
     Capturing,
@@ -31,7 +31,7 @@ pub enum OpenerFound {
 }
 
 /// What is wrong with the modifiers of a group.
-#[derive(Clone, Copy, Debug)]
+#[derive(Clone, Copy)]
 pub enum ModifiersFault {
     /// After them stands what is neither a modifier, nor a first `-`, nor `:`.
     Unknown,
@@ -44,7 +44,7 @@ pub enum ModifiersFault {
 }
 
 /// Why no token is read. Lengths and places are in units, from the place on.
-#[derive(Clone, Copy, Debug)]
+#[derive(Clone, Copy)]
 pub enum Halt {
     /// Terms end here, and no `)` stands here; what cannot be read stands n units on.
     Stop {
@@ -98,7 +98,7 @@ pub enum Halt {
 }
 
 /// What the units begin with. Lengths are in units.
-#[derive(Clone, Copy, Debug)]
+#[derive(Clone, Copy)]
 pub enum Found {
     Leaf {
         leaf: Leaf,

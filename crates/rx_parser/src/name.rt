@@ -16,7 +16,7 @@ use rx_scan::{UnicodeEscape, decode_counted, group_name_length_counted};
 use rx_units::{Ahead, Unit};
 
 /// What stands after `(?<` or `\k<`.
-#[derive(Clone, Copy, Debug)]
+#[derive(Clone, Copy)]
 pub enum NameFound {
     /// A name of n units, and `>`.
     Name { length: usize },
