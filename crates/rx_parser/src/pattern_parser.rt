@@ -1,9 +1,14 @@
-ghost use Rattle.std.specs.Prelude.{◌≡◌, Bool, ◌+◌, ◌*◌, ◌<◌, ◌≤◌, ◌^◌, All, IfErr, IfOk, OnOk, length};
-ghost use Rattle.rx_units.specs.Cursor.{rest};
+ghost use Rattle.std.specs.Prelude.{◌≡◌, Bool, ◌+◌, ◌*◌, ◌<◌, ◌≤◌, ◌^◌, ◌++◌, ◌∷◌, [], All, IfErr, IfOk, OnOk, length};
+ghost use Rattle.rx_units.specs.Cursor.{offset_of, rest};
+ghost use Rattle.rx_units.specs.Pace.{units_left};
+ghost use Rattle.rx_model.specs.Trees.Events.{events, leave};
+ghost use Rattle.rx_model.specs.Trees.Shapes.{IsWellMade};
 ghost use Rattle.rx_scan.specs.StateFaults.{mode_of_state};
 ghost use Rattle.rx_class.specs.Fitting.{AreFitting};
+ghost use Rattle.rx_parser.specs.Frames.{builder_events, openers};
+ghost use Rattle.rx_parser.specs.Good.{IsGood};
 ghost use Rattle.rx_parser.specs.Parsing.{AnswersParser, HoldsPass, IsRefused, IsWhole, rules_of_state};
-ghost use Rattle.rx_parser.specs.Turns.{IsUnderWay, RefusesText};
+ghost use Rattle.rx_parser.specs.Turns.{IsUnderWay, RefusesText, fixed_parts};
 
 use crate::builder::Builder;
 use crate::fault::{fault_at_end, here};
@@ -182,6 +187,26 @@ fn read_pattern<'a, S: UnitSource + 'a, C: Counter>(
     ensures steps { C.count steps.new ≤ C.count steps.old + 7 * length parse.entry.reader.units + 8 }
     ensures all { OnOk result (C.count steps.old + length parse.entry.reader.units ≤ C.count steps.new) }
 {
+    let end = take_turns(&mut parse, steps)?;
+    finish(parse.into_builder(), end)
+}
+
+/// Reads turn by turn what is left of the text, gives it to the builder, and tells where the text ends.
+#[inline(always)]
+fn take_turns<'a, S: UnitSource + 'a, C: Counter>(
+    parse: &mut Parse<'a, S>,
+    steps: &mut C,
+) -> Result<u32, Fault>
+    requires { IsUnderWay parse.old }
+    ensures under_way { OnOk result (IsUnderWay parse.new) }
+    ensures kept { OnOk result (fixed_parts parse.new ≡ fixed_parts parse.old) }
+    ensures left { OnOk result (units_left parse.new.reader ≡ 0) }
+    ensures whole { OnOk result (openers parse.new.builder ≡ []) }
+    ensures end { IfOk result (λ end. end ≡ offset_of parse.new.reader + parse.new.spans) }
+    ensures refused { IfErr result (RefusesText parse.old) }
+    ensures steps { C.count steps.new ≤ C.count steps.old + 7 * length parse.old.reader.units + 8 }
+    ensures all { OnOk result (C.count steps.old + units_left parse.old.reader ≤ C.count steps.new) }
+{
     while !parse.reader.ahead().is_empty() {
         if parse.take_common(steps)? {
             continue;
@@ -191,6 +216,15 @@ fn read_pattern<'a, S: UnitSource + 'a, C: Counter>(
     if !parse.builder.is_whole() {
         return Err(fault_at_end(&parse.reader, &parse.spans, &parse.builder));
     }
-    let end = here(&parse.reader, &parse.spans);
-    Ok(parse.builder.finish(end)?)
+    Ok(here(&parse.reader, &parse.spans))
+}
+
+/// The pattern that was built, which ends before the byte `end`.
+#[inline(always)]
+fn finish(builder: Builder, end: u32) -> Result<Pattern, Fault>
+    requires { openers builder ≡ [] }
+    ensures pattern { IfOk result (λ it. (events it ≡ builder_events builder ++ (leave end ∷ leave end ∷ leave end ∷ [])) × (IsGood builder → IsWellMade builder.mode it)) }
+    ensures memory { IfErr result (λ fault. fault ≡ Fault.OutOfMemory) }
+{
+    Ok(builder.finish(end)?)
 }

@@ -44,6 +44,14 @@ pub struct Parse<'a, S: UnitSource> {
 }
 
 impl<'a, S: UnitSource + 'a> Parse<'a, S> {
+    /// What is built of the units before the reader.
+    #[inline(always)]
+    pub fn into_builder(self) -> Builder
+        ensures { result ≡ self.entry.builder }
+    {
+        self.builder
+    }
+
     /// Reads a run of units that stand for themselves, or a common token, and gives it to the builder. `false` may be answered whatever stands there; then the
     /// parse is as it was. Fails only for lack of memory. A unit that is no SyntaxCharacter stands for itself in every mode (PatternCharacter of ECMA-262,
     /// 22.2.1), so nothing else is looked for there.
@@ -85,28 +93,19 @@ impl<'a, S: UnitSource + 'a> Parse<'a, S> {
     /// Reads a common token, told by its first unit, and gives it to the builder. `false` may be answered whatever stands there; then nothing changes. Fails
     /// only for lack of memory.
     #[inline(always)]
-    #[tactic(auto, using(crate::proofs::TokenPaces::move_taken))]
     fn take_by_first_unit<C: Counter>(&mut self, steps: &mut C) -> Result<bool, OutOfMemory>
         requires { HasMore self.old }
         ensures turned { MayTurn self.old self.new result }
         ensures steps { MayTakeToken (C.count steps.old) (C.count steps.new) self.old.reader self.new.reader result }
     {
         match first_ascii(&self.reader.ahead()) {
-            Some(b'|') => {
-                self.bar(steps)?;
-                Ok(true)
-            }
-            Some(b'.') => {
-                self.take_leaf(Leaf::Dot, 1, steps)?;
-                Ok(true)
-            }
+            Some(b'|') => self.take_bar(steps),
+            Some(b'.') => self.take_common_leaf(Leaf::Dot, 1, steps),
             Some(b'^') => {
-                self.take_leaf(Leaf::Boundary(BoundaryAssertionKind::Start), 1, steps)?;
-                Ok(true)
+                self.take_common_leaf(Leaf::Boundary(BoundaryAssertionKind::Start), 1, steps)
             }
             Some(b'$') => {
-                self.take_leaf(Leaf::Boundary(BoundaryAssertionKind::End), 1, steps)?;
-                Ok(true)
+                self.take_common_leaf(Leaf::Boundary(BoundaryAssertionKind::End), 1, steps)
             }
             Some(b')') => self.take_closer(steps),
             Some(b'\\') => self.take_escape(steps),
@@ -114,6 +113,37 @@ impl<'a, S: UnitSource + 'a> Parse<'a, S> {
             Some(sign) if is_quantifier_sign(sign) => self.take_quantifier(sign, steps),
             _ => Ok(false),
         }
+    }
+
+    /// Reads a bar, begins an alternative in the builder, and answers `true`.
+    #[inline(always)]
+    fn take_bar<C: Counter>(&mut self, steps: &mut C) -> Result<bool, OutOfMemory>
+        requires more { HasMore self.old }
+        requires found { StandsNext self.old Found.Bar }
+        ensures turned { MayTurn self.old self.new result }
+        ensures steps { MayTakeToken (C.count steps.old) (C.count steps.new) self.old.reader self.new.reader result }
+    {
+        self.bar(steps)?;
+        Ok(true)
+    }
+
+    /// Reads a common term that is one token of n units, gives it to the builder, and answers `true`. Looking for it takes a step for each unit past the
+    /// second.
+    #[inline(always)]
+    fn take_common_leaf<C: Counter>(
+        &mut self,
+        leaf: Leaf,
+        length: usize,
+        steps: &mut C,
+    ) -> Result<bool, OutOfMemory>
+        requires more { HasMore self.old }
+        requires found { StandsNext self.old (Found.Leaf leaf length) }
+        ensures turned { MayTurn self.old self.new result }
+        ensures steps { MayTakeToken (C.count steps.old) (C.count steps.new) self.old.reader self.new.reader result }
+    {
+        steps.add(length.saturating_sub(2));
+        self.take_leaf(leaf, length, steps)?;
+        Ok(true)
     }
 
     /// The end of the span of the next n units.
@@ -136,12 +166,10 @@ impl<'a, S: UnitSource + 'a> Parse<'a, S> {
         ensures turned { MayTurn self.old self.new result }
         ensures steps { MayTakeToken (C.count steps.old) (C.count steps.new) self.old.reader self.new.reader result }
     {
-        let Some((leaf, length)) = self.common_leaf() else {
-            return Ok(false);
-        };
-        steps.add(length - 2);
-        self.take_leaf(leaf, length, steps)?;
-        Ok(true)
+        match self.common_leaf() {
+            Some((leaf, length)) => self.take_common_leaf(leaf, length, steps),
+            None => Ok(false),
+        }
     }
 
     /// The leaf that stands next, and how many units it has, where it is a common escape.
@@ -162,17 +190,32 @@ impl<'a, S: UnitSource + 'a> Parse<'a, S> {
         requires more { HasMore self.old }
         requires stands { front (rest self.old.reader) ≡ Some ascii.left_parenthesis }
         ensures turned { MayTurn self.old self.new result }
-        ensures steps { MayTakeToken (C.count steps.old) (C.count steps.new) self.old.reader self.new.reader result }
+        ensures steps { IsMove (C.count steps.old) (C.count steps.new) self.old.reader self.new.reader }
     {
         let units = self.reader.ahead();
         if !stands_at(&units, 1, '?') {
-            self.open_group(GroupKind::Capturing(None), 1, steps)?;
-            return Ok(true);
+            return self.take_common_group(GroupKind::Capturing(None), 1, steps);
         }
         if !stands_at(&units, 2, ':') {
             return Ok(false);
         }
-        self.open_group(GroupKind::Ignoring(None), 3, steps)?;
+        self.take_common_group(GroupKind::Ignoring(None), 3, steps)
+    }
+
+    /// Reads n units, which a group of this kind begins with, opens it in the builder, and answers `true`.
+    #[inline(always)]
+    fn take_common_group<C: Counter>(
+        &mut self,
+        group_kind: GroupKind,
+        length: usize,
+        steps: &mut C,
+    ) -> Result<bool, OutOfMemory>
+        requires more { HasMore self.old }
+        requires found { (opener : OpenerFound) × StandsNext self.old (Found.Open opener length) × IsGroupKindOf self.old.builder.mode self.old.reader self.old.spans length opener group_kind }
+        ensures turned { MayTurn self.old self.new result }
+        ensures steps { IsMove (C.count steps.old) (C.count steps.new) self.old.reader self.new.reader }
+    {
+        self.open_group(group_kind, length, steps)?;
         Ok(true)
     }
 

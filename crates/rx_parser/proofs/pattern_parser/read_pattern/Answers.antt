@@ -1,67 +1,25 @@
-use Rattle.std.proofs.Common.{◌≡◌, ◌≤◌, ◌+◌, ◌*◌, ℕ, [], false, refl, sym, subst, List, length, drop, arith, length-drop, rules}
-use Rattle.rx_parser.proofs.Common.{Fault, Pattern, Cursor, rest, CodePoint, HasMore, IsUnderWay, Mode, Rules, State, openers, IsTurnPaced, IsRefused, IsWhole, RefusesText, fixed_parts, Parse}
+use Rattle.std.proofs.Common.{◌≡◌, ℕ, List, ◌∷◌, ◌++◌, [], subst, arith, length-drop}
+use Rattle.std.specs.Prelude.{IfOk}
+use Rattle.rx_parser.proofs.Common.{Builder, Pattern, CodePoint, IfOk-weaker, IsGood, IsWellMade, Mode, Rules, State, IsWhole, builder_events, events, fixed_parts, leave, Parse}
 use Rattle.rx_parser.proofs.Endings.{parsing_ended}
-use Rattle.rx_parser.proofs.Halts.{ended_refused}
-use Rattle.rx_parser.proofs.Paces.{plain_within}
 use Rattle.rx_parser.proofs.pattern_parser.read_pattern.Goals as goal
 
--- What is answered after some turns is answered to what was given before them.
-refuses_same : {S U : Type 0} (p q : Parse S U) (fault : Fault) → fixed_parts q ≡ fixed_parts p → RefusesText q fault → RefusesText p fault
-refuses_same p q fault kept h = subst (λ (k : Mode × Rules × List CodePoint × ℕ × ℕ × State). IsRefused k.0 k.1 k.2 k.3 k.4 fault) kept h
-
+-- What was read to its end is what was given.
 whole_same : {S U : Type 0} (p q : Parse S U) (tree : Pattern) → fixed_parts q ≡ fixed_parts p → IsWhole q.builder.mode q.builder.rules q.reader.units q.reader.first q.spans tree
     → IsWhole p.builder.mode p.builder.rules p.reader.units p.reader.first p.spans tree
 whole_same p q tree kept h = subst (λ (k : Mode × Rules × List CodePoint × ℕ × ℕ × State). IsWhole k.0 k.1 k.2 k.3 k.4 tree) kept h
 
--- at the end of the text
-end_paced : (from to : Cursor) (old new : ℕ) → IsTurnPaced old new from to → length (rest to) ≡ 0 → new ≤ old + 7 * length from.units + 8
-end_paced from to old new pace none = omega (arith, none, pace.1, plain_within (rest to), length-drop from.place from.units)
-
--- something is left
-has_more : {S U : Type 0} (p : Parse S U) → IsUnderWay p → (length (rest p.reader) ≡ 0 → ⊥) → HasMore p
-has_more p h some = record { under_way = h; left = omega (arith, some, length-drop p.reader.place p.reader.units, h.parsing.within) }
-
-pub loop-parse-init : goal.loop-parse-init
-loop-parse-init g c = record { under_way = c.requires.under_way; kept = refl; pace = (omega arith, omega arith) }
-
-pub take_common-requires : goal.take_common-requires
-take_common-requires g c = has_more c.loop-parse.parse c.loop-parse.invariant.under_way (search rules)
-
-pub take_token-requires : goal.take_token-requires
-take_token-requires g c =
-    let it = c.in_ok-take_common in
-    let none : it.field-0 ≡ false = cc in
-    let same : c.take_common.new.self ≡ c.loop-parse.parse = rw none at it.ensures.turned in
-    subst HasMore (sym same) (has_more c.loop-parse.parse c.loop-parse.invariant.under_way (search rules))
-
-pub returns-then-not-is_whole-clause-refused : goal.returns-then-not-is_whole-clause-refused
-returns-then-not-is_whole-clause-refused g c =
-    let q = c.loop-parse.parse in
-    let r = q.reader in
-    let it = c.loop-parse.invariant in
-    let on = it.under_way in
-    let left : length (drop r.place r.units) ≡ 0 = search rules in
-    let some : openers q.builder ≡ [] → ⊥ = search rules in
-    refuses_same c.args.parse q c.fault_at_end.result it.kept
-    (ended_refused r.units r.first q.spans q.builder r.place on.parsing on.pass.no_clash on.pass.in_limit (omega (arith, left, length-drop r.place r.units, on.parsing.within)) some c.fault_at_end.result c.fault_at_end.ensures)
-
 pub returns-clause-whole : goal.returns-clause-whole
 returns-clause-whole g c =
-    let q = c.loop-parse.parse in
+    let p = c.args.parse in
+    let q = c.take_turns.new.parse in
     let r = q.reader in
-    let it = c.loop-parse.invariant in
+    let it = c.in_ok-end.ensures in
     let on = it.under_way in
-    let tree = c.in_ok-finish in
-    let left : length (drop r.place r.units) ≡ 0 = search rules in
-    whole_same c.args.parse q tree.field-0 it.kept
-    (parsing_ended q.builder.mode q.builder.rules r.units r.first q.spans tree.field-0 on.pass.no_clash on.pass.in_limit q.builder r.place c.here-end.result on.parsing
-    (omega (arith, left, length-drop r.place r.units)) c.here-end.ensures tree.ensures.events tree.ensures.good)
-
-pub returns-then-not-is_whole-clause-steps : goal.returns-then-not-is_whole-clause-steps
-returns-then-not-is_whole-clause-steps g c = end_paced c.args.parse.reader c.loop-parse.parse.reader (g.C.Counter.count c.args.steps.now) (g.C.Counter.count c.loop-parse.steps) c.loop-parse.invariant.pace (search rules)
-
-pub returns-in_err-finish-clause-steps : goal.returns-in_err-finish-clause-steps
-returns-in_err-finish-clause-steps g c = end_paced c.args.parse.reader c.loop-parse.parse.reader (g.C.Counter.count c.args.steps.now) (g.C.Counter.count c.loop-parse.steps) c.loop-parse.invariant.pace (search rules)
-
-pub returns-clause-steps : goal.returns-clause-steps
-returns-clause-steps g c = end_paced c.args.parse.reader c.loop-parse.parse.reader (g.C.Counter.count c.args.steps.now) (g.C.Counter.count c.loop-parse.steps) c.loop-parse.invariant.pace (search rules)
+    let at = c.in_ok-end.end in
+    IfOk-weaker c.finish.result (λ tree. (events tree ≡ builder_events q.builder ++ (leave at ∷ leave at ∷ leave at ∷ [])) × (IsGood q.builder → IsWellMade q.builder.mode tree))
+    (IsWhole p.builder.mode p.builder.rules p.reader.units p.reader.first p.spans)
+    (λ tree made. whole_same p q tree it.kept
+    (parsing_ended q.builder.mode q.builder.rules r.units r.first q.spans tree on.pass.no_clash on.pass.in_limit q.builder r.place at on.parsing
+    (omega (arith, it.left, length-drop r.place r.units)) it.end made.0 made.1))
+    (subst (λ (b : Builder). IfOk c.finish.result (λ tree. (events tree ≡ builder_events b ++ (leave at ∷ leave at ∷ leave at ∷ [])) × (IsGood b → IsWellMade b.mode tree))) c.into_builder.ensures c.finish.ensures.pattern)

@@ -9,6 +9,22 @@ use Rattle.rx_parser.proofs.PlainRuns.{first_fits, first_unit, run_on, unit_end,
 use Rattle.rx_parser.proofs.Turns.{between}
 use Rattle.rx_parser.proofs.turn.plain_run.Goals as goal
 
+pub end_of-end-requires-clause-within : goal.end_of-end-requires-clause-within
+end_of-end-requires-clause-within g c =
+    let first = first_unit c.loop-value.left c.in-Some.value (sym c.first.ensures ∙ c.in-Some.is) in
+    omega (arith, ap length first.2)
+
+pub from-left-requires : goal.from-left-requires
+from-left-requires g c =
+    let first = first_unit c.loop-value.left c.in-Some.value (sym c.first.ensures ∙ c.in-Some.is) in
+    omega (arith, ap length first.2)
+
+pub loop-value-smaller : goal.loop-value-smaller
+loop-value-smaller g c =
+    let left = c.loop-value.left in
+    let first = first_unit left c.in-Some.value (sym c.first.ensures ∙ c.in-Some.is) in
+    omega (arith, ap length first.2, ap length c.from-left.ensures.units, length-drop 1 left)
+
 pub create-end-requires : goal.create-end-requires
 create-end-requires g c =
     let fits = first_fits c.args.count (c.args.count - length c.loop-value.left) c.requires.before.fits c.loop-value.invariant.left (sym c.first.ensures ∙ c.in-Some.is) c.end_of-end.ensures in

@@ -3,12 +3,12 @@ use Rattle.rx_parser.specs.declared.found.OpenerFound.TheVariants.{Capturing, Ig
 use Rattle.rx_parser.proofs.FirstUnits.{capturing_stands, ignoring_stands}
 use Rattle.rx_parser.proofs.turn.Parse.take_opener.Goals as goal
 
-pub open_group-requires-clause-found : goal.open_group-requires-clause-found
-open_group-requires-clause-found g c =
+pub take_common_group-requires-clause-found : goal.take_common_group-requires-clause-found
+take_common_group-requires-clause-found g c =
     let units = c.ahead-units.ensures in
     (Capturing, capturing_stands c.args.self.now units.units units.code_points c.requires.stands (search rules), refl)
 
-pub open_group-requires-2-clause-found : goal.open_group-requires-2-clause-found
-open_group-requires-2-clause-found g c =
+pub take_common_group-requires-2-clause-found : goal.take_common_group-requires-2-clause-found
+take_common_group-requires-2-clause-found g c =
     let units = c.ahead-units.ensures in
     (Ignoring, ignoring_stands c.args.self.now units.units units.code_points c.requires.stands (search rules) (search rules), refl)

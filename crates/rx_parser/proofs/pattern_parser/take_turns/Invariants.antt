@@ -1,6 +1,6 @@
 use Rattle.std.proofs.Common.{◌≡◌, ◌-◌, length}
 use Rattle.rx_parser.proofs.Common.{IsTurnPaced, IsUnderWay, fixed_parts}
-use Rattle.rx_parser.proofs.pattern_parser.read_pattern.Given as goal
+use Rattle.rx_parser.proofs.pattern_parser.take_turns.Given as goal
 
 abbrev pub invariant-loop-parse : goal.invariant-loop-parse
 invariant-loop-parse g l = record {
