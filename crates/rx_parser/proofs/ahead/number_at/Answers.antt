@@ -25,3 +25,9 @@ loop-count-preserved g c =
       run = grind (arith, common_steps, run_more, was.run, here);
       steps = omega (arith, was.steps);
     }
+
+pub returns-then-not-is_decimal_digit-clause-within : goal.returns-then-not-is_decimal_digit-clause-within
+returns-then-not-is_decimal_digit-clause-within g c = omega (arith, c.loop-count-test.true, c.items-items.ensures.length)
+
+pub returns-then-not-is_decimal_digit-clause-steps : goal.returns-then-not-is_decimal_digit-clause-steps
+returns-then-not-is_decimal_digit-clause-steps g c = let it = c.loop-count.invariant.steps in (omega (arith, it), omega (arith, it))
