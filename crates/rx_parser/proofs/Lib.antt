@@ -15,6 +15,7 @@ pub mod Leaves
 pub mod Looks
 pub mod ModifierBits
 pub mod ModifiersFound
+pub mod Moves
 pub mod NameFound
 pub mod NumberFound
 pub mod Paces

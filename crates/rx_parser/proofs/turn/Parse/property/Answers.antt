@@ -1,6 +1,8 @@
-use Rattle.std.proofs.Common.{rules, refl}
-use Rattle.rx_parser.proofs.Common.{RefusesText}
+use Rattle.std.proofs.Common.{◌≤◌, ◌+◌, ◌*◌, arith, rules, refl}
+use Rattle.rx_units.specs.Pace.{IsBounded}
+use Rattle.rx_parser.proofs.Common.{Fault, RefusesText}
 use Rattle.rx_parser.proofs.ClassTurns.{property_never_none, property_refused, property_taken}
+use Rattle.rx_parser.proofs.Moves.{next_bounded, next_paced, reading_paced}
 use Rattle.rx_parser.proofs.Turns.{before, has_turned}
 use Rattle.rx_parser.proofs.turn.Parse.property.Goals as goal
 
@@ -21,3 +23,51 @@ returns-clause-turned g c =
     has_turned c.requires.more
     (property_taken (before c.requires.more) c.requires.more.under_way.pass c.advance_counted.ensures.reader c.leaf.new.self c.in_ok-escape.field-0 c.in-Some.escape term.field-0 c.offset-start.ensures.value c.in-Some.is c.in_ok-escape.ensures.gives term.ensures
     (record { events = it.events; openers_are = it.openers; ready_is = it.ready; good = it.good (term.ensures.good c.args.self.now.builder.mode); fixed = it.fixed })) refl refl
+
+pub returns-in_err-escape-clause-steps : goal.returns-in_err-escape-clause-steps
+returns-in_err-escape-clause-steps g c =
+    let from = c.args.self.now.reader in
+    let one = c.advance_counted.new.self in
+    let read = c.parse_character_class_escape_unicode in
+    let old = g.C.Counter.count c.args.steps.now in
+    let mid = g.C.Counter.count c.advance_counted.new.steps in
+    let new = g.C.Counter.count read.new.steps in
+    let bounded : IsBounded 6 old new from = next_bounded old mid new from one read.new.reader c.advance_counted.ensures.reader c.advance_counted.ensures.steps c.in_err-escape.ensures.steps in
+    search rules
+
+pub returns-in_err-property_term-in-Some-clause-steps : goal.returns-in_err-property_term-in-Some-clause-steps
+returns-in_err-property_term-in-Some-clause-steps g c =
+    let from = c.args.self.now.reader in
+    let one = c.advance_counted.new.self in
+    let read = c.parse_character_class_escape_unicode in
+    let old = g.C.Counter.count c.args.steps.now in
+    let mid = g.C.Counter.count c.advance_counted.new.steps in
+    let new = g.C.Counter.count read.new.steps in
+    let paced = next_paced old mid new from one read.new.reader c.advance_counted.ensures.reader c.advance_counted.ensures.steps
+    (reading_paced Fault 6 mid new one read.new.reader c.in_ok-escape.field-0 c.in-Some.escape c.in-Some.is c.in_ok-escape.ensures.steps) in
+    let bounded : IsBounded 6 old new from = omega (arith, paced.1) in
+    search rules
+
+pub returns-in_err-leaf-in-Some-clause-steps : goal.returns-in_err-leaf-in-Some-clause-steps
+returns-in_err-leaf-in-Some-clause-steps g c =
+    let from = c.args.self.now.reader in
+    let one = c.advance_counted.new.self in
+    let read = c.parse_character_class_escape_unicode in
+    let old = g.C.Counter.count c.args.steps.now in
+    let mid = g.C.Counter.count c.advance_counted.new.steps in
+    let new = g.C.Counter.count read.new.steps in
+    let paced = next_paced old mid new from one read.new.reader c.advance_counted.ensures.reader c.advance_counted.ensures.steps
+    (reading_paced Fault 6 mid new one read.new.reader c.in_ok-escape.field-0 c.in-Some.escape c.in-Some.is c.in_ok-escape.ensures.steps) in
+    let bounded : IsBounded 6 old new from = omega (arith, paced.1) in
+    search rules
+
+pub returns-clause-steps : goal.returns-clause-steps
+returns-clause-steps g c =
+    let from = c.args.self.now.reader in
+    let one = c.advance_counted.new.self in
+    let read = c.parse_character_class_escape_unicode in
+    let old = g.C.Counter.count c.args.steps.now in
+    let mid = g.C.Counter.count c.advance_counted.new.steps in
+    let new = g.C.Counter.count read.new.steps in
+    next_paced old mid new from one read.new.reader c.advance_counted.ensures.reader c.advance_counted.ensures.steps
+    (reading_paced Fault 6 mid new one read.new.reader c.in_ok-escape.field-0 c.in-Some.escape c.in-Some.is c.in_ok-escape.ensures.steps)
