@@ -121,6 +121,7 @@ impl<'a, S: UnitSource + 'a> Parse<'a, S> {
         requires more { HasMore self.old }
         requires found { StandsNext self.old Found.Bar }
         ensures turned { MayTurn self.old self.new result }
+        ensures answer { IfOk result IsTrue }
         ensures steps { MayTakeToken (C.count steps.old) (C.count steps.new) self.old.reader self.new.reader result }
     {
         self.bar(steps)?;
@@ -139,6 +140,7 @@ impl<'a, S: UnitSource + 'a> Parse<'a, S> {
         requires more { HasMore self.old }
         requires found { StandsNext self.old (Found.Leaf leaf length) }
         ensures turned { MayTurn self.old self.new result }
+        ensures answer { IfOk result IsTrue }
         ensures steps { MayTakeToken (C.count steps.old) (C.count steps.new) self.old.reader self.new.reader result }
     {
         steps.add(length.saturating_sub(2));
@@ -213,6 +215,7 @@ impl<'a, S: UnitSource + 'a> Parse<'a, S> {
         requires more { HasMore self.old }
         requires found { (opener : OpenerFound) × StandsNext self.old (Found.Open opener length) × IsGroupKindOf self.old.builder.mode self.old.reader self.old.spans length opener group_kind }
         ensures turned { MayTurn self.old self.new result }
+        ensures answer { IfOk result IsTrue }
         ensures steps { IsMove (C.count steps.old) (C.count steps.new) self.old.reader self.new.reader }
     {
         self.open_group(group_kind, length, steps)?;
