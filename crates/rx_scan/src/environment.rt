@@ -8,7 +8,7 @@ use rx_model::Mode;
 
 /// What the reading of a token depends on besides the text.
 // Why: docs/DECISIONS.md, 101.
-#[derive(Clone, Copy, Debug)]
+#[derive(Clone, Copy)]
 pub struct Environment {
     pub mode: Mode,
     /// Whether the buffer boundaries are read with `u` or `v`.

@@ -23,7 +23,7 @@ use rx_units::{Ahead, Unit};
 use std::alloc::Global;
 
 /// A named opening: its index among the marks, its name, and the places before and after the units of the name.
-#[derive(Debug, Drop)]
+#[derive(Drop)]
 pub struct Opening {
     pub mark: usize,
     pub start: usize,
@@ -32,7 +32,7 @@ pub struct Opening {
 }
 
 /// Why a first pass stopped.
-#[derive(Clone, Copy, Debug, PartialEq, Eq)]
+#[derive(Clone, Copy)]
 pub enum PassFault {
     OutOfMemory,
     /// The places before and after the units of two equal names.
@@ -54,7 +54,7 @@ impl From<OutOfMemory> for PassFault {
 }
 
 /// What a first pass has found so far.
-#[derive(Debug, Drop)]
+#[derive(Drop)]
 pub struct FirstPass {
     pub mode: Mode,
     /// Whether two groups may have one name where a bar parts them.

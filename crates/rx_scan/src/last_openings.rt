@@ -7,7 +7,7 @@ use std::alloc::Global;
 use std::collections::BTreeMap;
 
 /// The last opening of each name, by its index among the marks.
-#[derive(Debug, Drop)]
+#[derive(Drop)]
 pub struct LastOpenings {
     pub marks: BTreeMap<String, usize>,
 }

@@ -7,14 +7,14 @@ use std::alloc::Global;
 
 /// A group that is open: the index after its opening among the marks, and that of the last bar that stands directly in it, or the
 /// first again.
-#[derive(Clone, Copy, Debug, PartialEq, Eq)]
+#[derive(Clone, Copy)]
 pub struct OpenGroup {
     pub start: usize,
     pub bar: usize,
 }
 
 /// The groups that are open. The outermost is the whole text.
-#[derive(Debug, Drop)]
+#[derive(Drop)]
 pub struct OpenGroups {
     pub outer: List<OpenGroup>,
     pub innermost: OpenGroup,

@@ -6,7 +6,7 @@ ghost use Rattle.rx_units.specs.Quoted.Fronts.{element};
 use crate::quoted_text::{Element, Writing};
 
 /// What stands after a backslash. Lengths count characters from the backslash on.
-#[derive(Clone, Copy, Debug)]
+#[derive(Clone, Copy)]
 pub(crate) enum EscapeFound {
     Escaped {
         value: u32,
@@ -30,7 +30,7 @@ pub(crate) enum EscapeFound {
 }
 
 /// What stands at a place. Lengths count characters from there.
-#[derive(Clone, Copy, Debug)]
+#[derive(Clone, Copy)]
 pub(crate) enum Found {
     Element { element: Element, length: usize },
     /// The closing quote.
