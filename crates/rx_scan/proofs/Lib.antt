@@ -6,6 +6,7 @@ pub mod Steps
 pub mod EscapeAnswers
 pub mod EscapeCounts
 pub mod LookedDigits
+pub mod FourDigits
 pub mod MarkSteps
 pub mod GroupSteps
 pub mod KnownNames

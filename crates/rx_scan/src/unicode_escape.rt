@@ -1,11 +1,12 @@
-ghost use Rattle.std.specs.Prelude.{◌≡◌, ◌+◌, ◌*◌, ◌<◌, ◌≤◌, true, is_some, length, option_map, IfSome, MatchOption, if◌then◌else◌};
+ghost use Rattle.std.specs.Prelude.{◌≡◌, [], ◌∷◌, ◌+◌, ◌*◌, ◌<◌, ◌≤◌, true, is_some, length, option_map, IfSome, MatchOption, if◌then◌else◌};
 ghost use Rattle.rx_base.specs.Rising.{Rises};
 ghost use Rattle.rx_base.specs.SurrogatePair.{IsLeadSurrogate, IsTrailSurrogate};
 ghost use Rattle.rx_tables.specs.Characters.{hex_digit_value};
+ghost use Rattle.rx_units.specs.Digits.{hex_number};
 ghost use Rattle.rx_units.specs.Units.{values};
 ghost use Rattle.rx_model.specs.Characters.Decoding.{after_u, braces_at, decoding_of, four_at, pair_or_unit, run_at, trail_at};
 ghost use Rattle.rx_model.specs.Characters.LegacyEscapes.{four_next};
-ghost use Rattle.rx_scan.specs.DecodingSteps.{digits_after_u, digits_in_braces, digits_looked_at, digits_of_four, digits_of_run, digits_of_trail, escape_length, least_digits, most_digits};
+ghost use Rattle.rx_scan.specs.DecodingSteps.{digits_after_u, digits_in_braces, digits_looked_at, digits_of_four, digits_of_run, digits_of_trail, escape_length, hex_run, least_digits, most_digits};
 ghost use Rattle.rx_scan.specs.EscapeDecoding.{IsDecoded, seen_escape};
 
 use rx_base::{Counter, Steps, combine_surrogate_pair, is_lead_surrogate, is_trail_surrogate};
@@ -103,7 +104,6 @@ fn after_u<U: Unit, C: Counter>(
 }
 
 /// The number of four hexadecimal digits (Hex4Digits, 12.9.4), and the units after them.
-#[tactic(auto, using(crate::proofs::Steps::short_four))]
 fn four_digits<'a, U: Unit, C: Counter>(
     units: &Ahead<'a, U>,
     steps: &mut C,
@@ -115,32 +115,58 @@ fn four_digits<'a, U: Unit, C: Counter>(
 {
     match units.items() {
         [a, b, c, d, ..] => {
-            let a = hex_digit(a.value(), steps)?;
-            let b = hex_digit(b.value(), steps)?;
-            let c = hex_digit(c.value(), steps)?;
-            let d = hex_digit(d.value(), steps)?;
-            Some((16 * (16 * (16 * a + b) + c) + d, units.from(4)))
+            let number = number_of_four(a.value(), b.value(), c.value(), d.value(), steps)?;
+            Some((number, units.from(4)))
         }
         _ => None,
     }
 }
 
+/// The number that four units spell as hexadecimal digits (Hex4Digits, 12.9.4).
+fn number_of_four<C: Counter>(a: u32, b: u32, c: u32, d: u32, steps: &mut C) -> Option<u32>
+    ensures value { result ≡ hex_number (a ∷ b ∷ c ∷ d ∷ []) }
+    ensures looked { C.count steps.new ≡ hex_run (a ∷ b ∷ c ∷ d ∷ []) + C.count steps.old }
+{
+    let high = number_of_two(a, b, steps)?;
+    let low = number_of_two(c, d, steps)?;
+    Some(256 * high + low)
+}
+
+/// The number that two units spell as hexadecimal digits.
+fn number_of_two<C: Counter>(a: u32, b: u32, steps: &mut C) -> Option<u32>
+    ensures value { result ≡ hex_number (a ∷ b ∷ []) }
+    ensures small { IfSome result (λ number. number < 256) }
+    ensures looked { C.count steps.new ≡ hex_run (a ∷ b ∷ []) + C.count steps.old }
+{
+    let high = hex_digit(a, steps)?;
+    let low = hex_digit(b, steps)?;
+    Some(16 * high + low)
+}
+
 /// The number of the four hexadecimal digits (Hex4Digits, 12.9.4) that stand next. It counts no steps.
 #[inline(always)]
-#[tactic(auto, using(crate::proofs::Steps::short_next))]
 pub fn four_hex_digits<U: Unit>(units: &Ahead<'_, U>) -> Option<u32>
     ensures { result ≡ four_next (values units.now) }
 {
     match units.items() {
         [a, b, c, d, ..] => {
-            let a = digit_value(a.value())?;
-            let b = digit_value(b.value())?;
-            let c = digit_value(c.value())?;
-            let d = digit_value(d.value())?;
-            Some(16 * (16 * (16 * a + b) + c) + d)
+            let high = two_digit_value(a.value(), b.value())?;
+            let low = two_digit_value(c.value(), d.value())?;
+            Some(256 * high + low)
         }
         _ => None,
     }
+}
+
+/// The number that two units spell as hexadecimal digits, counting no step.
+#[inline(always)]
+fn two_digit_value(a: u32, b: u32) -> Option<u32>
+    ensures value { result ≡ hex_number (a ∷ b ∷ []) }
+    ensures small { IfSome result (λ number. number < 256) }
+{
+    let high = digit_value(a)?;
+    let low = digit_value(b)?;
+    Some(16 * high + low)
 }
 
 /// What a hexadecimal digit stands for (HexDigit, 12.9.3), and a step where the unit is one.
