@@ -7,6 +7,7 @@ pub mod EscapeAnswers
 pub mod EscapeCounts
 pub mod LookedDigits
 pub mod FourDigits
+pub mod BracedDigits
 pub mod MarkSteps
 pub mod GroupSteps
 pub mod KnownNames

@@ -1,10 +1,11 @@
-ghost use Rattle.std.specs.Prelude.{◌≡◌, [], ◌∷◌, ◌+◌, ◌*◌, ◌<◌, ◌≤◌, true, is_some, length, option_map, IfSome, MatchOption, if◌then◌else◌};
+ghost use Rattle.std.specs.Prelude.{◌≡◌, [], ◌∷◌, ◌+◌, ◌*◌, ◌^◌, ◌<◌, ◌≤◌, ◌==◌, ◌&&◌, true, is_some, length, option_map, None, Some, IfSome, MatchOption, nat_le, nat_lt, if◌then◌else◌};
+ghost use Rattle.rx_base.specs.Ascii as ascii;
 ghost use Rattle.rx_base.specs.Rising.{Rises};
 ghost use Rattle.rx_base.specs.SurrogatePair.{IsLeadSurrogate, IsTrailSurrogate};
 ghost use Rattle.rx_tables.specs.Characters.{hex_digit_value};
 ghost use Rattle.rx_units.specs.Digits.{hex_number};
 ghost use Rattle.rx_units.specs.Units.{values};
-ghost use Rattle.rx_model.specs.Characters.Decoding.{after_u, braces_at, decoding_of, four_at, pair_or_unit, run_at, trail_at};
+ghost use Rattle.rx_model.specs.Characters.Decoding.{after_u, braces_at, decoding_of, four_at, invalid, pair_or_unit, run_at, trail_at, value};
 ghost use Rattle.rx_model.specs.Characters.LegacyEscapes.{four_next};
 ghost use Rattle.rx_scan.specs.DecodingSteps.{digits_after_u, digits_in_braces, digits_looked_at, digits_of_four, digits_of_run, digits_of_trail, escape_length, hex_run, least_digits, most_digits};
 ghost use Rattle.rx_scan.specs.EscapeDecoding.{IsDecoded, seen_escape};
@@ -241,32 +242,49 @@ fn braced_digits<U: Unit, C: Counter>(units: &Ahead<'_, U>, steps: &mut C) -> Un
 }
 
 /// The number of the digits up to the closing brace (CodePoint, 12.9.6).
-#[tactic(auto, using(crate::proofs::LookedDigits::run_is_looked_at))]
 fn digits_to_brace<U: Unit, C: Counter>(units: &Ahead<'_, U>, steps: &mut C) -> UnicodeEscape
     ensures read { seen_escape result ≡ run_at 0 0 (values units.now) }
     ensures steps { Rises (C.count steps.old) (C.count steps.new) (least_digits result) (most_digits true (length units.now) result) }
     ensures half { escape_length result + 2 * C.count steps.old ≤ 2 * C.count steps.new }
     ensures looked { Rises (C.count steps.old) (C.count steps.new) (digits_of_run (values units.now)) (digits_of_run (values units.now) + 1) }
 {
-    let mut value = 0u32;
+    let mut number = 0u32;
     let items = units.items();
-    for (count, unit) in items.iter().enumerate() {
+    for (count, item) in items.iter().enumerate() {
         steps.tick();
-        match map_hex_digit(unit.value()) {
-            Some(digit) => match value.checked_mul(16).and_then(|v| v.checked_add(digit)) {
-                Some(next) => value = next,
+        let unit = item.value();
+        match map_hex_digit(unit) {
+            Some(digit) => match with_digit(number, digit) {
+                Some(next) => number = next,
                 None => return UnicodeEscape::Overflow { digits: count },
             },
-            None => {
-                if unit.value() == '}' as u32 && count > 0 && value <= 0x10FFFF {
-                    return UnicodeEscape::Value {
-                        code_point: value,
-                        length: count + 3,
-                    };
-                }
-                return UnicodeEscape::Invalid;
-            }
+            None => return after_digits(number, count, unit),
         }
+    }
+    UnicodeEscape::Invalid
+}
+
+/// A number with one hexadecimal digit more, where it fits 32 bits.
+#[inline(always)]
+fn with_digit(number: u32, digit: u32) -> Option<u32>
+    ensures { result ≡ if nat_lt (16 * number + digit) (2 ^ 32) then Some (16 * number + digit) else None }
+{
+    number
+        .checked_mul(16)
+        .and_then(|shifted| shifted.checked_add(digit))
+}
+
+/// What this many digits after an opening brace are, whose number this is, before a unit that is no digit.
+#[inline(always)]
+fn after_digits(number: u32, count: usize, unit: u32) -> UnicodeEscape
+    requires { count + 3 < 2 ^ 64 }
+    ensures { seen_escape result ≡ if (unit == ascii.right_brace) && (nat_lt 0 count && nat_le number 0x10FFFF) then value number (count + 3) else invalid }
+{
+    if unit == '}' as u32 && count > 0 && number <= 0x10FFFF {
+        return UnicodeEscape::Value {
+            code_point: number,
+            length: count + 3,
+        };
     }
     UnicodeEscape::Invalid
 }

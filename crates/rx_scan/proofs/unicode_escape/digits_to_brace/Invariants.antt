@@ -8,7 +8,7 @@ use Rattle.rx_scan.proofs.unicode_escape.digits_to_brace.Given as goal
 
 abbrev pub invariant-loop-count : goal.invariant-loop-count
 invariant-loop-count g l = record {
-  read : run_at l.value l.count (values_of g.U.Unit.value (drop l.count l.items)) ≡ run_at 0 0 (values_of g.U.Unit.value l.items);
-  looked : digits_of_run (values_of g.U.Unit.value l.items) ≡ l.count + run_looked l.value (values_of g.U.Unit.value (drop l.count l.items));
+  read : run_at l.number l.count (values_of g.U.Unit.value (drop l.count l.items)) ≡ run_at 0 0 (values_of g.U.Unit.value l.items);
+  looked : digits_of_run (values_of g.U.Unit.value l.items) ≡ l.count + run_looked l.number (values_of g.U.Unit.value (drop l.count l.items));
   turns : HasStepped (g.C.Counter.count l.fn.steps) (g.C.Counter.count l.steps) l.count;
 }
