@@ -1,5 +1,5 @@
 -- Steps of the loop that reads a name, and what is left of a text at a place.
-use Rattle.std.proofs.Common.{◌≡◌, refl, ap, sym, ◌∙◌, ℕ, ◌+◌, ◌<◌, true, false, cond, ◌==◌, Some, None, List, [], ◌∷◌, ◌++◌, map, take, drop, get_or, append_assoc, append-nil, length, length-drop, arith}
+use Rattle.std.proofs.Common.{◌≡◌, refl, ap, sym, ◌∙◌, ℕ, ◌+◌, ◌<◌, ◌≤◌, true, false, cond, ◌==◌, Some, None, List, [], ◌∷◌, ◌++◌, map, take, drop, get_or, append_assoc, append-nil, length, length-drop, arith}
 use Rattle.std.proofs.Math.Bool.{and-true}
 use Rattle.std.proofs.Math.Seq.{drop-length}
 use Rattle.std.proofs.lemmas.List.{at_drop_more, drop-map, length-map, map_more, take-map}
@@ -65,3 +65,14 @@ units_left place us vs u e = omega (arith, ap length e, length-drop place (value
 pub starts_not : (c : ℕ) (us : List CodePoint) → begins (c ∷ []) us ≡ false → starts c (values us) ≡ false
 starts_not c [] h = refl
 starts_not c (u ∷ us) h = sym (and-true (u.value == c)) ∙ h
+
+-- A loop that takes a step for each unit before its place: at the end, before it, and after a mark that begins there.
+module _ (us : List CodePoint) (old new place : ℕ) (turns : HasStepped old new place) where
+  pub stepped_all : drop place (values us) ≡ [] → place ≤ length us → new ≡ old + length us
+  stepped_all none within = omega (arith, turns, within, ap length none, length-drop place (values us), values_length us)
+
+  pub stepped_within : place ≤ length us → new ≤ old + length us
+  stepped_within within = omega (arith, turns, within)
+
+  pub stepped_over : (following : List CodePoint) (u ticked more last : ℕ) → drop place (values us) ≡ u ∷ values following → more ≤ length following → ticked ≡ new + 1 → last ≡ ticked + more → last ≤ old + length us
+  stepped_over following u ticked more last here within tick steps = omega (arith, turns, within, tick, steps, units_left place us following u here)

@@ -11,7 +11,7 @@ use Rattle.rx_base.specs.Texts.{are_same, is_among}
 use Rattle.rx_units.proofs.Choices.{Some-inj, both}
 use Rattle.rx_model.specs.declared.mode.Mode.{Mode}
 use Rattle.rx_model.specs.FirstPass.GroupStates.{GroupState, Hides, Nests, group_states, step}
-use Rattle.rx_model.specs.FirstPass.Marks.{Mark, Clash, IsFirstClash, IsParted, other, bar, closer, quiet, capturing, count, listed, mark_at, mark_count, mark_front, mark_name, marks, marks_following, name_length, name_places, names, mark_place, places, places_following}
+use Rattle.rx_model.specs.FirstPass.Marks.{Mark, Clash, IsFirstClash, IsParted, other, bar, closer, quiet, capturing, count, listed, mark_at, mark_count, mark_front, mark_name, marks, marks_following, name_length, name_places, names, mark_place, places, places_following, seen}
 use Rattle.rx_model.specs.Trees.Names.{once_after}
 use Rattle.rx_model.proofs.FirstPass.PartedMarks.{hidden_parted, parted_hidden, last_seen, nests}
 use Rattle.rx_scan.specs.MarkReading.{is_plain}
@@ -350,6 +350,15 @@ all_clean mode duplicate_names us at k s none w a b c = elim (cases_lt b k) [
       let d : drop k (marks mode us) ≡ [] = w.rest ∙ ap (marks mode) none in
       let m = nothing_at (marks mode us) k d b l in let q : None ≡ Some c.name = sym (ap (mark_name mode) m) ∙ c.second in cc
 ]
+
+-- what has been found where nothing is left
+pub counted_all : (mode : Mode) (duplicate_names : Bool) (us : List ℕ) (at k : ℕ) (s : FirstPass) → drop at us ≡ [] → IsAt mode duplicate_names us at k s → s.count ≡ count (marks mode us)
+counted_all mode duplicate_names us at k s none w =
+    let all : s.count + 0 ≡ count (marks mode us) = ap (λ rest. s.count + count (marks mode rest)) (sym none) ∙ w.counted in
+    omega (arith, all)
+
+pub named_all : (mode : Mode) (duplicate_names : Bool) (us : List ℕ) (at k : ℕ) (s : FirstPass) → drop at us ≡ [] → IsAt mode duplicate_names us at k s → s.names ≡ seen mode (marks mode us)
+named_all mode duplicate_names us at k s none w = ap (λ rest. with_names s.names (names mode (marks mode rest))) (sym none) ∙ w.named_by
 
 last_or_none : (x y : Option Entry) → last_or x y ≡ None → (x ≡ None) × (y ≡ None)
 last_or_none None y e = (refl, e)

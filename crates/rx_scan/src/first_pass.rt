@@ -71,7 +71,6 @@ impl FirstPass {
     /// Counts the groups of a text and lists their names (CountLeftCapturingParensWithin of ECMA-262, 22.2.1.2), or finds the first two equal
     /// names that clash (22.2.1.1): any two, or where two groups may have one name, two that no bar parts. Counts each unit that it goes over.
     // Why: docs/DECISIONS.md, 61.
-    #[tactic(auto, unfolding(rx_model::specs::Refusals::Reached::text_groups, rx_model::specs::Refusals::Reached::text_names))]
     pub fn over<U: Unit, C: Counter>(
         alloc: Global,
         units: &Ahead<'_, U>,
