@@ -62,7 +62,6 @@ fn name_alone<U: Unit, L: Ledger>(
 }
 
 /// Reads a name as `capturing_group_name` does. Counts each of its characters, and the digits of an escape as `decode_counted` does.
-#[tactic(auto, using(crate::proofs::GroupNames::is_name_of))]
 pub fn capturing_group_name_counted<U: Unit, C: Counter>(
     alloc: Global,
     units: &Ahead<'_, U>,

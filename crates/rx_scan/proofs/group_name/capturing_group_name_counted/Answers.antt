@@ -69,3 +69,29 @@ returns-clause-read g c =
     let us = c.args.units.now in
     is_name_of c.args.unicode_mode (values us) (Some c.loop-place.name)
     (ends_whole c.args.unicode_mode (values us) c.loop-place.name c.loop-place.place (omega (arith, values_length us)) c.loop-place.invariant.read (omega (arith, c.if-place-eq0.false)) (omega (arith, values_length us, c.items-items.ensures.length, c.loop-place-test.false)))
+
+pub overflow_add-place : goal.overflow_add-place
+overflow_add-place g c = omega (arith, c.loop-place-test.true, c.items-items.ensures.short)
+
+pub from-following-requires : goal.from-following-requires
+from-following-requires g c = omega (arith, c.loop-place-test.true, c.items-items.ensures.length)
+
+pub returns-in_err-push-in-Some-clause-steps : goal.returns-in_err-push-in-Some-clause-steps
+returns-in_err-push-in-Some-clause-steps g c =
+    let left = units_left c.loop-place.place c.args.units.now c.from-following.result _ (value_at g.U.Unit.value _ c.loop-place.place _ c.items-items.ensures.values c.loop-place-test.true (c.value-unit.ensures ∙ ap g.U.Unit.value c.index-items-place.is) ∙ ap (λ w. c.value-unit.result ∷ w) (sym c.from-following.ensures.values)) in
+    (omega (arith, c.in-Some.ensures.steps), omega (arith, c.in-Some.ensures.steps, left))
+
+pub returns-in-None-clause-least : goal.returns-in-None-clause-least
+returns-in-None-clause-least g c = tt
+
+pub returns-then-place-eq0-clause-least : goal.returns-then-place-eq0-clause-least
+returns-then-place-eq0-clause-least g c = tt
+
+pub returns-then-place-eq0-clause-steps : goal.returns-then-place-eq0-clause-steps
+returns-then-place-eq0-clause-steps g c = (omega (arith, c.loop-place.invariant.least), omega (arith, c.loop-place.invariant.most, c.loop-place.invariant.within))
+
+pub returns-clause-steps : goal.returns-clause-steps
+returns-clause-steps g c = (omega (arith, c.loop-place.invariant.least), omega (arith, c.loop-place.invariant.most, c.loop-place.invariant.within))
+
+pub returns-clause-least : goal.returns-clause-least
+returns-clause-least g c = omega (arith, c.loop-place.invariant.least, c.loop-place-test.false, c.items-items.ensures.length)

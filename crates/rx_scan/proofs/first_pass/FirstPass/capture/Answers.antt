@@ -1,4 +1,4 @@
-use Rattle.std.proofs.Common.{refl, ap, sym, subst, ◌∙◌, ◌+◌, length, None, Some}
+use Rattle.std.proofs.Common.{refl, ap, sym, subst, ◌∙◌, ◌+◌, length, None, Some, arith}
 use Rattle.std.specs.Result.{OnOk}
 use Rattle.std.proofs.lemmas.Result.{on_ok_weaker}
 use Rattle.rx_units.specs.Units.{values}
@@ -22,3 +22,39 @@ returns-in-None-clause-ok g c =
     (on_ok_weaker c.capture_unnamed-in-None.result
     (λ f. captured_steps old new (Some spelled) None place index (ap (λ unicode_mode. name_of unicode_mode spelled) (sym c.is_unicode.ensures) ∙ sym c.in_ok-spelled_name.ensures.read ∙ c.in-None.is) (f (place + 3) (place + 3 + length spelled)))
     c.capture_unnamed-in-None.ensures.ok)
+
+pub capture_unnamed-requires-clause-few : goal.capture_unnamed-requires-clause-few
+capture_unnamed-requires-clause-few g c = c.requires.few
+
+pub capture_unnamed-requires-clause-after : goal.capture_unnamed-requires-clause-after
+capture_unnamed-requires-clause-after g c = c.requires.after
+
+pub capture_unnamed-requires-clause-knows : goal.capture_unnamed-requires-clause-knows
+capture_unnamed-requires-clause-knows g c = c.requires.knows
+
+pub capture_unnamed-requires-in-None-clause-few : goal.capture_unnamed-requires-in-None-clause-few
+capture_unnamed-requires-in-None-clause-few g c = c.requires.few
+
+pub capture_unnamed-requires-in-None-clause-after : goal.capture_unnamed-requires-in-None-clause-after
+capture_unnamed-requires-in-None-clause-after g c = c.requires.after
+
+pub capture_unnamed-requires-in-None-clause-knows : goal.capture_unnamed-requires-in-None-clause-knows
+capture_unnamed-requires-in-None-clause-knows g c = c.requires.knows
+
+pub capture_named-requires-clause-few : goal.capture_named-requires-clause-few
+capture_named-requires-clause-few g c = c.requires.few
+
+pub capture_named-requires-clause-after : goal.capture_named-requires-clause-after
+capture_named-requires-clause-after g c = c.requires.after
+
+pub capture_named-requires-clause-tells : goal.capture_named-requires-clause-tells
+capture_named-requires-clause-tells g c = c.requires.tells _
+
+pub capture_named-requires-clause-nests : goal.capture_named-requires-clause-nests
+capture_named-requires-clause-nests g c = c.requires.nests
+
+pub capture_named-requires-clause-knows : goal.capture_named-requires-clause-knows
+capture_named-requires-clause-knows g c = c.requires.knows
+
+pub overflow_add-start : goal.overflow_add-start
+overflow_add-start g c = omega (arith, c.requires.room)
