@@ -1,5 +1,5 @@
 -- Digits: which ones they are, and how large the numbers are that they spell.
-use Rattle.std.proofs.Common.{◌≡◌, ℕ, ◌+◌, ◌*◌, ◌<◌, ◌≤◌, ◌==◌, true, false, not, ◌&&◌, List, [], ◌∷◌, Some, arith}
+use Rattle.std.proofs.Common.{◌≡◌, ℕ, ◌+◌, ◌*◌, ◌<◌, ◌≤◌, ◌==◌, true, false, not, ◌&&◌, List, [], ◌∷◌, Option, Some, None, option_and_then, refl, ap, arith}
 use Rattle.std.proofs.lemmas.Bool.Decides.{nat_tests}
 use Rattle.std.proofs.lemmas.Option.{option_and_then_some}
 use Rattle.rx_base.specs.Characters.{is_within}
@@ -46,3 +46,41 @@ high_octal c o e = grind (arith, nat_tests)
 
 pub nonzero_digit : (c : ℕ) → is_decimal_digit c ≡ true → (c == 48) ≡ false → is_within 49 57 c ≡ true
 nonzero_digit c h k = grind (arith, nat_tests)
+
+-- the number of two, and of four, by what each stands for
+abbrev two : Option ℕ → Option ℕ → Option ℕ
+two a b = option_and_then (λ i. option_and_then (λ j. Some (16 * (16 * 0 + i) + j)) b) a
+
+abbrev four : Option ℕ → Option ℕ → Option ℕ → Option ℕ → Option ℕ
+four a b c d = option_and_then (λ i. option_and_then (λ j. option_and_then (λ k. option_and_then (λ l. Some (16 * (16 * (16 * (16 * 0 + i) + j) + k) + l)) d) c) b) a
+
+none_first : (a b c d : Option ℕ) → None ≡ two a b → None ≡ four a b c d
+none_first None b c d none = refl
+none_first (Some i) None c d none = refl
+none_first (Some i) (Some j) c d none = absurd (let no : ⊥ = cc none in no)
+
+none_last : (a b c d : Option ℕ) (m : ℕ) → Some m ≡ two a b → None ≡ two c d → None ≡ four a b c d
+none_last None b c d m high none = absurd (let no : ⊥ = cc high in no)
+none_last (Some i) None c d m high none = absurd (let no : ⊥ = cc high in no)
+none_last (Some i) (Some j) None d m high none = refl
+none_last (Some i) (Some j) (Some k) None m high none = refl
+none_last (Some i) (Some j) (Some k) (Some l) m high none = absurd (let no : ⊥ = cc none in no)
+
+some_both : (a b c d : Option ℕ) (m n : ℕ) → Some m ≡ two a b → Some n ≡ two c d → Some (256 * m + n) ≡ four a b c d
+some_both None b c d m n high low = absurd (let no : ⊥ = cc high in no)
+some_both (Some i) None c d m n high low = absurd (let no : ⊥ = cc high in no)
+some_both (Some i) (Some j) None d m n high low = absurd (let no : ⊥ = cc low in no)
+some_both (Some i) (Some j) (Some k) None m n high low = absurd (let no : ⊥ = cc low in no)
+some_both (Some i) (Some j) (Some k) (Some l) m n high low =
+    let first : m ≡ 16 * (16 * 0 + i) + j = cc high in
+    let last : n ≡ 16 * (16 * 0 + k) + l = cc low in
+    ap Some (omega (arith, first, last))
+
+pub none_by_first : (a b c d : ℕ) → None ≡ hex_number (a ∷ b ∷ []) → None ≡ hex_number (a ∷ b ∷ c ∷ d ∷ [])
+none_by_first a b c d = none_first (hex_digit_value a) (hex_digit_value b) (hex_digit_value c) (hex_digit_value d)
+
+pub none_by_last : (a b c d m : ℕ) → Some m ≡ hex_number (a ∷ b ∷ []) → None ≡ hex_number (c ∷ d ∷ []) → None ≡ hex_number (a ∷ b ∷ c ∷ d ∷ [])
+none_by_last a b c d = none_last (hex_digit_value a) (hex_digit_value b) (hex_digit_value c) (hex_digit_value d)
+
+pub some_by_both : (a b c d m n : ℕ) → Some m ≡ hex_number (a ∷ b ∷ []) → Some n ≡ hex_number (c ∷ d ∷ []) → Some (256 * m + n) ≡ hex_number (a ∷ b ∷ c ∷ d ∷ [])
+some_by_both a b c d = some_both (hex_digit_value a) (hex_digit_value b) (hex_digit_value c) (hex_digit_value d)

@@ -1,6 +1,7 @@
 -- The units that items are, as a list.
 use Rattle.std.proofs.Common.{◌≡◌, ℕ, zero, suc, ◌+◌, ◌-◌, ◌%◌, ◌^◌, ◌<◌, ◌≤◌, List, [], ◌∷◌, length, drop, take, get_or, refl, ap, subst, sym, ◌∙◌, add-zero, zero-add, arith}
 use Rattle.std.specs.Prelude.{map}
+use Rattle.std.proofs.lemmas.List.{length-map}
 use Rattle.rx_units.specs.declared.code_point.CodePoint.{CodePoint}
 use Rattle.rx_units.specs.Bytes.{byte_units}
 use Rattle.rx_units.specs.Stored.{units_of, values_of}
@@ -45,6 +46,16 @@ module _ {Item : Type 0} (unit : ℕ → Item → CodePoint) (value : Item → �
   pub units_values : (place : ℕ) (xs : List Item) → values (units_of unit place xs) ≡ values_of value xs
   units_values place [] = refl
   units_values place (x ∷ xs) = rw (value_is place x, units_values (place + 1) xs) refl
+
+-- units by their first item, and the units after it
+module _ {Item : Type 0} (unit : ℕ → Item → CodePoint) (value : Item → ℕ) (value_is : (place : ℕ) (item : Item) → (unit place item).value ≡ value item) (place : ℕ) where
+  pub first_value : (xs : List Item) (us rest : List CodePoint) (x : Item) (v : ℕ) → us ≡ units_of unit place xs → 1 ≤ length xs → x ≡ get_or xs 0 x → v ≡ value x → rest ≡ drop 1 us → values us ≡ v ∷ values rest
+  first_value [] us rest x v us_are some x_is v_is rest_is = absurd (omega arith)
+  first_value (y ∷ xs) us rest x v us_are some x_is v_is rest_is =
+      ap values us_are ∙ ap (λ u. u ∷ values (units_of unit (place + 1) xs)) (value_is place y ∙ ap value (sym x_is) ∙ sym v_is) ∙ ap (λ w. v ∷ values w) (sym (rest_is ∙ ap (drop 1) us_are))
+
+pub one_more : (v : ℕ) (us rest : List CodePoint) → values us ≡ v ∷ values rest → length us ≡ length rest + 1
+one_more v us rest e = omega (arith, ap length e, length-map us (λ u. u.value), length-map rest (λ u. u.value))
 
 unit_none : CodePoint
 unit_none = unit_record 0 0 0 kind.None

@@ -79,20 +79,20 @@ impl fmt::Display for StringFault {
     ghost styled_output = { λ fault _. Some (encode_utf8_all (string_message fault)) };
 
     fn fmt<W: fmt::Write>(&self, f: &mut fmt::Formatter<W>) -> fmt::Result {
-        match self {
-            Self::OutOfMemory => f.write_str("Out of memory"),
-            Self::InvalidInput { .. } => f.write_str(
+        f.write_str(match self {
+            Self::OutOfMemory => "Out of memory",
+            Self::InvalidInput { .. } =>
                 "String literal should be wrapped with ' or \", or escaped properly",
-            ),
-            Self::LegacyInStrictMode { what, .. } => {
-                f.write_str("Not allowed ")?;
-                what.fmt(f)?;
-                f.write_str(" escape sequence in strict mode")
-            }
-            Self::TooLargeUnicodeEscapeSequence { .. } => f.write_str(
-                "Too large unicode escape sequence",
-            ),
-        }
+            Self::LegacyInStrictMode {
+                what: LegacyKind::Octal,
+                ..
+            } => "Not allowed octal escape sequence in strict mode",
+            Self::LegacyInStrictMode {
+                what: LegacyKind::NonOctalDecimal,
+                ..
+            } => "Not allowed non octal decimal escape sequence in strict mode",
+            Self::TooLargeUnicodeEscapeSequence { .. } => "Too large unicode escape sequence",
+        })
     }
 }
 

@@ -1,5 +1,6 @@
-ghost use Rattle.std.specs.Prelude.{◌≡◌, ◌<◌, IfSome};
+ghost use Rattle.std.specs.Prelude.{◌≡◌, [], ◌∷◌, ◌<◌, IfSome};
 ghost use Rattle.rx_tables.specs.Characters.{hex_digit_value};
+ghost use Rattle.rx_units.specs.Digits.{hex_number};
 ghost use Rattle.rx_units.specs.Quoted.Found.{seen_escape};
 ghost use Rattle.rx_units.specs.Quoted.Fronts.{braces_at, digits_at, four_at, front_digit, hex_at, unicode_after};
 
@@ -62,20 +63,30 @@ pub(crate) fn unicode_escape(chars: &[char]) -> EscapeFound
 }
 
 /// The number of four hexadecimal digits (Hex4Digits of ECMA-262, 12.9.4).
-#[tactic(auto, using(crate::proofs::Quoted::Steps::short_four))]
 fn four_digits(chars: &[char]) -> Option<u32>
     ensures { result ≡ four_at chars.now }
 {
     match chars {
-        [a, b, c, d, ..] => {
-            let a = hex_digit(*a)?;
-            let b = hex_digit(*b)?;
-            let c = hex_digit(*c)?;
-            let d = hex_digit(*d)?;
-            Some(16 * (16 * (16 * a + b) + c) + d)
-        }
+        [a, b, c, d, ..] => number_of_four(*a, *b, *c, *d),
         _ => None,
     }
+}
+
+fn number_of_four(a: char, b: char, c: char, d: char) -> Option<u32>
+    ensures { result ≡ hex_number (a ∷ b ∷ c ∷ d ∷ []) }
+{
+    let high = number_of_two(a, b)?;
+    let low = number_of_two(c, d)?;
+    Some(256 * high + low)
+}
+
+fn number_of_two(a: char, b: char) -> Option<u32>
+    ensures value { result ≡ hex_number (a ∷ b ∷ []) }
+    ensures small { IfSome result (λ number. number < 256) }
+{
+    let high = hex_digit(a)?;
+    let low = hex_digit(b)?;
+    Some(16 * high + low)
 }
 
 /// The digits of a UnicodeEscapeSequence in braces (ECMA-262, 12.9.4).

@@ -11,7 +11,7 @@ use Rattle.rx_scan.proofs.unicode_escape.four_digits.Goals as goal
 four_stand : (g : Over) (c : After-number_of_four g) → values c.args.units.now ≡ c.value.result ∷ c.value-in-len4-up.result ∷ c.value-in-len4-up-2.result ∷ c.value-in-len4-up-3.result ∷ drop 4 (values c.args.units.now)
 four_stand g c =
     four_items g.U.Unit.value _ c.items.result.now c.a-item.result c.b-item.result c.c-item.result c.d-item.result _ _ _ _ c.items.ensures.values c.in-len4-up.len_at_least
-        c.a-item.is c.b-item.is c.c-item.is c.d-item.is c.value.ensures c.value-in-len4-up.ensures c.value-in-len4-up-2.ensures c.value-in-len4-up-3.ensures
+    c.a-item.is c.b-item.is c.c-item.is c.d-item.is c.value.ensures c.value-in-len4-up.ensures c.value-in-len4-up-2.ensures c.value-in-len4-up-3.ensures
 
 pub returns-in_err-number-in-len4-up-clause-value : goal.returns-in_err-number-in-len4-up-clause-value
 returns-in_err-number-in-len4-up-clause-value g c =
