@@ -1,55 +1,18 @@
--- Four hexadecimal digits by two and two: their number, and how many of them are looked at.
-use Rattle.std.proofs.Common.{◌≡◌, ℕ, ◌+◌, ◌*◌, ◌<◌, ◌≤◌, cond, is_some, List, [], ◌∷◌, length, min, drop, get_or, Option, Some, None, option_and_then, option_map, refl, ap, ◌∙◌, sym, arith}
+-- Four hexadecimal digits by two and two: how many of them are looked at, and where they are read.
+use Rattle.std.proofs.Common.{◌≡◌, ℕ, ◌+◌, ◌<◌, ◌≤◌, cond, is_some, List, [], ◌∷◌, length, min, drop, get_or, Option, Some, None, option_map, refl, ap, ◌∙◌, sym, arith}
 use Rattle.std.proofs.lemmas.Bool.{le-ltb, lt-ltb}
 use Rattle.rx_base.specs.Rising.{Rises}
 use Rattle.rx_tables.specs.Characters.{hex_digit_value}
 use Rattle.rx_units.specs.Digits.{hex_number}
 use Rattle.rx_units.specs.Stored.{values_of}
+use Rattle.rx_units.proofs.Digits.{four, two}
 use Rattle.rx_model.specs.Characters.Decoding.{four_at}
 use Rattle.rx_model.specs.Characters.LegacyEscapes.{four_next}
 use Rattle.rx_scan.specs.DecodingSteps.{digits_of_four, hex_run}
 
--- the number of two, and of four, by what each stands for
-abbrev two : Option ℕ → Option ℕ → Option ℕ
-two a b = option_and_then (λ i. option_and_then (λ j. Some (16 * (16 * 0 + i) + j)) b) a
-
-abbrev four : Option ℕ → Option ℕ → Option ℕ → Option ℕ → Option ℕ
-four a b c d = option_and_then (λ i. option_and_then (λ j. option_and_then (λ k. option_and_then (λ l. Some (16 * (16 * (16 * (16 * 0 + i) + j) + k) + l)) d) c) b) a
-
 -- the digits at the front of two and what follows them
 abbrev run : Option ℕ → Option ℕ → ℕ → ℕ
 run a b more = cond (is_some a) (1 + cond (is_some b) (1 + more) 0) 0
-
-none_first : (a b c d : Option ℕ) → None ≡ two a b → None ≡ four a b c d
-none_first None b c d none = refl
-none_first (Some i) None c d none = refl
-none_first (Some i) (Some j) c d none = absurd (let no : ⊥ = cc none in no)
-
-none_last : (a b c d : Option ℕ) (m : ℕ) → Some m ≡ two a b → None ≡ two c d → None ≡ four a b c d
-none_last None b c d m high none = absurd (let no : ⊥ = cc high in no)
-none_last (Some i) None c d m high none = absurd (let no : ⊥ = cc high in no)
-none_last (Some i) (Some j) None d m high none = refl
-none_last (Some i) (Some j) (Some k) None m high none = refl
-none_last (Some i) (Some j) (Some k) (Some l) m high none = absurd (let no : ⊥ = cc none in no)
-
-some_both : (a b c d : Option ℕ) (m n : ℕ) → Some m ≡ two a b → Some n ≡ two c d → Some (256 * m + n) ≡ four a b c d
-some_both None b c d m n high low = absurd (let no : ⊥ = cc high in no)
-some_both (Some i) None c d m n high low = absurd (let no : ⊥ = cc high in no)
-some_both (Some i) (Some j) None d m n high low = absurd (let no : ⊥ = cc low in no)
-some_both (Some i) (Some j) (Some k) None m n high low = absurd (let no : ⊥ = cc low in no)
-some_both (Some i) (Some j) (Some k) (Some l) m n high low =
-    let first : m ≡ 16 * (16 * 0 + i) + j = cc high in
-    let last : n ≡ 16 * (16 * 0 + k) + l = cc low in
-    ap Some (omega (arith, first, last))
-
-pub none_by_first : (a b c d : ℕ) → None ≡ hex_number (a ∷ b ∷ []) → None ≡ hex_number (a ∷ b ∷ c ∷ d ∷ [])
-none_by_first a b c d = none_first (hex_digit_value a) (hex_digit_value b) (hex_digit_value c) (hex_digit_value d)
-
-pub none_by_last : (a b c d m : ℕ) → Some m ≡ hex_number (a ∷ b ∷ []) → None ≡ hex_number (c ∷ d ∷ []) → None ≡ hex_number (a ∷ b ∷ c ∷ d ∷ [])
-none_by_last a b c d = none_last (hex_digit_value a) (hex_digit_value b) (hex_digit_value c) (hex_digit_value d)
-
-pub some_by_both : (a b c d m n : ℕ) → Some m ≡ hex_number (a ∷ b ∷ []) → Some n ≡ hex_number (c ∷ d ∷ []) → Some (256 * m + n) ≡ hex_number (a ∷ b ∷ c ∷ d ∷ [])
-some_by_both a b c d = some_both (hex_digit_value a) (hex_digit_value b) (hex_digit_value c) (hex_digit_value d)
 
 run_first : (a b : Option ℕ) (more old new : ℕ) → None ≡ two a b → new ≡ run a b 0 + old → new ≡ run a b more + old
 run_first None b more old new none looked = looked

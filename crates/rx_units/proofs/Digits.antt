@@ -48,10 +48,10 @@ pub nonzero_digit : (c : ℕ) → is_decimal_digit c ≡ true → (c == 48) ≡ 
 nonzero_digit c h k = grind (arith, nat_tests)
 
 -- the number of two, and of four, by what each stands for
-abbrev two : Option ℕ → Option ℕ → Option ℕ
+abbrev pub two : Option ℕ → Option ℕ → Option ℕ
 two a b = option_and_then (λ i. option_and_then (λ j. Some (16 * (16 * 0 + i) + j)) b) a
 
-abbrev four : Option ℕ → Option ℕ → Option ℕ → Option ℕ → Option ℕ
+abbrev pub four : Option ℕ → Option ℕ → Option ℕ → Option ℕ → Option ℕ
 four a b c d = option_and_then (λ i. option_and_then (λ j. option_and_then (λ k. option_and_then (λ l. Some (16 * (16 * (16 * (16 * 0 + i) + j) + k) + l)) d) c) b) a
 
 none_first : (a b c d : Option ℕ) → None ≡ two a b → None ≡ four a b c d

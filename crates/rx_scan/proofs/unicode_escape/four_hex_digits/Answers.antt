@@ -1,6 +1,7 @@
 use Rattle.std.proofs.Common.{ap, refl, sym, ◌∙◌}
+use Rattle.rx_units.proofs.Digits.{none_by_first, none_by_last, some_by_both}
 use Rattle.rx_model.specs.Characters.LegacyEscapes.{four_next}
-use Rattle.rx_scan.proofs.FourDigits.{four_items, next_read, none_by_first, none_by_last, some_by_both}
+use Rattle.rx_scan.proofs.FourDigits.{four_items, next_read}
 use Rattle.rx_scan.proofs.Steps.{short_next}
 use Rattle.rx_scan.proofs.unicode_escape.four_hex_digits.Goals as goal
 

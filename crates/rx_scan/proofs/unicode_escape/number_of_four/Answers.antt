@@ -1,5 +1,6 @@
 use Rattle.std.proofs.Common.{◌∙◌}
-use Rattle.rx_scan.proofs.FourDigits.{looked_by_both, looked_by_first, none_by_first, none_by_last, some_by_both}
+use Rattle.rx_units.proofs.Digits.{none_by_first, none_by_last, some_by_both}
+use Rattle.rx_scan.proofs.FourDigits.{looked_by_both, looked_by_first}
 use Rattle.rx_scan.proofs.unicode_escape.number_of_four.Goals as goal
 
 pub returns-in_err-high-clause-value : goal.returns-in_err-high-clause-value
