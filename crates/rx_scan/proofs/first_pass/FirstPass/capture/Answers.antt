@@ -1,6 +1,6 @@
 use Rattle.std.proofs.Common.{refl, ap, sym, subst, ◌∙◌, ◌+◌, length, None, Some, arith}
 use Rattle.std.specs.Result.{OnOk}
-use Rattle.std.proofs.lemmas.Result.{on_ok_weaker}
+use Rattle.std.proofs.lemmas.Result.{IfOk-from_err, on_ok_weaker}
 use Rattle.rx_units.specs.Units.{values}
 use Rattle.rx_model.specs.Groups.GroupNameReading.{name_of}
 use Rattle.rx_scan.specs.FirstPass.{Steps}
@@ -58,3 +58,6 @@ capture_named-requires-clause-knows g c = c.requires.knows
 
 pub overflow_add-start : goal.overflow_add-start
 overflow_add-start g c = omega (arith, c.requires.room)
+
+pub returns-in_err-spelled_name-clause-ok : goal.returns-in_err-spelled_name-clause-ok
+returns-in_err-spelled_name-clause-ok g c = IfOk-from_err c.from_residual.result _ c.from_residual.ensures.0
