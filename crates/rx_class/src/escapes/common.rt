@@ -14,7 +14,7 @@ use rx_tables::map_short_escape;
 use rx_units::{Ahead, Unit};
 
 /// An escape of a character that is read alike in classes and outside them, whatever groups and names the pattern has.
-#[derive(Clone, Copy, Debug)]
+#[derive(Clone, Copy)]
 pub struct CommonEscape {
     /// How it is written.
     pub kind: CharacterKind,

@@ -23,7 +23,7 @@ use rx_tables::{
 use rx_units::{Ahead, Unit};
 
 /// What stands after a backslash, in units.
-#[derive(Clone, Copy, Debug)]
+#[derive(Clone, Copy)]
 pub enum EscapeFound {
     /// A character of a kind, and how many units spell it after the backslash.
     Character {

@@ -23,7 +23,7 @@ use rx_units::{Ahead, Unit};
 use std::alloc::Global;
 
 /// What stands after a backslash where a property escape may stand, in units.
-#[derive(Debug, Drop)]
+#[derive(Drop)]
 pub enum PropertyFound {
     /// A property escape, and how many units spell it after the backslash.
     Property {
@@ -40,7 +40,7 @@ pub enum PropertyFound {
 }
 
 /// Why no property escape stands after `p` or `P`. Places count the units after the backslash.
-#[derive(Debug, Drop)]
+#[derive(Drop)]
 pub enum PropertyHalt {
     /// It is cut off at a place.
     Unterminated { end: usize },
@@ -55,7 +55,7 @@ pub enum PropertyHalt {
 }
 
 /// What a word names that stands alone between the braces.
-#[derive(Clone, Copy, Debug)]
+#[derive(Clone, Copy)]
 pub enum Lone {
     /// A value of General_Category.
     Category,

@@ -27,7 +27,7 @@ use rx_units::{Ahead, Unit, UnitSource};
 
 /// What stands where a character of a class stands with `v` (ClassSetCharacter of ECMA-262, 22.2.1): one, or an escape of one that is
 /// refused. Lengths count from the backslash on.
-#[derive(Clone, Copy, Debug)]
+#[derive(Clone, Copy)]
 pub enum SetCharacter {
     Character {
         kind: CharacterKind,

@@ -15,7 +15,7 @@ use rx_base::{Counter, SetOperator};
 use rx_units::{Ahead, Unit};
 
 /// What stands where an operand of a class may stand with `v` (ClassSetExpression of ECMA-262, 22.2.1).
-#[derive(Clone, Copy, Debug)]
+#[derive(Clone, Copy)]
 pub enum SetFront {
     /// `]`
     Closer,

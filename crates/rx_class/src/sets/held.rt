@@ -8,7 +8,7 @@ use rx_ast::CharacterClassContentsKind;
 use rx_base::SetOperator;
 
 /// What a bracket of a class holds so far (ClassContents of ECMA-262, 22.2.1).
-#[derive(Clone, Copy, Debug, PartialEq, Eq)]
+#[derive(Clone, Copy)]
 pub enum Held {
     /// Nothing.
     Empty,

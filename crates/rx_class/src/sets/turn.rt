@@ -9,7 +9,7 @@ use rx_ast::CharacterClassEscapeKind;
 use rx_base::SetOperator;
 
 /// What is done with what stands next in a bracket of a class with `v`. A `Held` is what the bracket holds after it.
-#[derive(Clone, Copy, Debug)]
+#[derive(Clone, Copy)]
 pub enum Turn {
     /// The bracket closes.
     Close,
