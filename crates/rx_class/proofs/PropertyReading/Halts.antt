@@ -66,25 +66,24 @@ module _ (mode : Mode) (unicode : is_unicode mode ≡ true) (negative : Bool) wh
         spelled_before false (values name) (Some (values value)) (values name ++ (61 ∷ values value)) w (values following) (4 + length name + length value) whole closed (pair valid)
         (omega (arith, length-append (values name) (61 ∷ values value), values_length name, values_length value)) (and-false negative)
 
-  module _ (w : List ℕ) (run following : List CodePoint) (r : HasRun w (values run) (values following)) where
-    cut_off_at : (place : ℕ) → place + 1 + (2 + length run) ≡ place + 3 + length (values run)
-    cut_off_at place = omega (arith, values_length run)
+  module _ (w word following : List ℕ) (r : HasRun w word following) (n : ℕ) (count : n ≡ length word) where
+    cut_off_at : (place : ℕ) → place + 1 + (2 + n) ≡ place + 3 + length word
+    cut_off_at place = omega (arith, count)
 
-    pub run_unterminated : (values run ≡ []) ⊎ (values following ≡ []) → IsPropertyHalt mode (property_letter negative ∷ 123 ∷ w) (halt.Unterminated (2 + length run))
-    run_unterminated short us rest first added place whole = rw (cut_off_at place) (unterminated_run w (values run) (values following) (begins rest w whole) r short)
+    pub run_unterminated : (word ≡ []) ⊎ (following ≡ []) → IsPropertyHalt mode (property_letter negative ∷ 123 ∷ w) (halt.Unterminated (2 + n))
+    run_unterminated short us rest first added place whole = rw (cut_off_at place) (unterminated_run w word following (begins rest w whole) r short)
 
-    pub run_unclosed : IsKnownRun mode (values run) → values following ≢ [] → starts 125 (values following) ≡ false → IsPropertyHalt mode (property_letter negative ∷ 123 ∷ w) (halt.Unterminated (2 + length run))
-    run_unclosed known some unclosed us rest first added place whole = rw (cut_off_at place) (unclosed_run w (values run) (values following) (begins rest w whole) r known some unclosed)
+    pub run_unclosed : IsKnownRun mode word → following ≢ [] → starts 125 following ≡ false → IsPropertyHalt mode (property_letter negative ∷ 123 ∷ w) (halt.Unterminated (2 + n))
+    run_unclosed known some unclosed us rest first added place whole = rw (cut_off_at place) (unclosed_run w word following (begins rest w whole) r known some unclosed)
 
-    pub run_unknown : (lone : Lone) → IsLone (values run) lone → values run ≢ [] → values following ≢ [] → is_known lone (is_sets mode) ≡ false
-        → IsPropertyHalt mode (property_letter negative ∷ 123 ∷ w) (unknown_halt lone (values run) (length run))
+    pub run_unknown : (lone : Lone) → IsLone word lone → word ≢ [] → following ≢ [] → is_known lone (is_sets mode) ≡ false → IsPropertyHalt mode (property_letter negative ∷ 123 ∷ w) (unknown_halt lone word n)
     run_unknown lone.OfStrings named some more unknown us rest first added place whole =
-        rw (sym (values_length run)) (of_strings w (values run) (values following) (unicode_alone mode unknown unicode) (begins rest w whole) r more (λ known. elim known [
+        rw count (of_strings w word following (unicode_alone mode unknown unicode) (begins rest w whole) r more (λ known. elim known [
           | inl h ↦ named.0 h
           | inr h ↦ elim h [ inl k ↦ named.1 k | inr k ↦ not_sets mode unknown k.0 ]
         ]) named.2)
     run_unknown lone.Nothing named some more unknown us rest first added place whole =
-        rw (sym (values_length run)) (unknown_run w (values run) (values following) (begins rest w whole) r some more (λ known. elim known [
+        rw count (unknown_run w word following (begins rest w whole) r some more (λ known. elim known [
           | inl h ↦ named.0 h
           | inr h ↦ elim h [ inl k ↦ named.1 k | inr k ↦ named.2 k.1 ]
         ]) named.2)

@@ -1,4 +1,4 @@
-ghost use Rattle.std.specs.Prelude.{◌≡◌, ◌+◌, ◌<◌, ◌^◌, ℕ, Bool, ◌∷◌, List, length, true, IfOk};
+ghost use Rattle.std.specs.Prelude.{◌≡◌, ◌≢◌, ◌+◌, ◌<◌, ◌^◌, ℕ, Bool, ◌∷◌, [], List, length, true, IfOk};
 ghost use Rattle.std.specs.List.{list_all};
 ghost use Rattle.std.specs.Str.{chars};
 ghost use Rattle.rx_base.specs.Ascii as ascii;
@@ -165,18 +165,46 @@ fn run_found<U: Unit, C: Counter>(
     ensures steps { Rises (C.count steps.old) (C.count steps.new) 0 (length run.entry.units) }
     ensures closed { IfOk result (IsClosedIn (3 + length run.entry.units) (values run.entry.following)) }
 {
+    let count = run.units.len();
     if run.units.is_empty() || run.following.is_empty() {
-        return Ok(unterminated(2 + run.units.len()));
+        return Ok(unterminated(2 + count));
     }
     let word = text_of(alloc, &run.units, steps)?;
+    word_found(
+        alloc,
+        negative,
+        word,
+        count,
+        is_closed(&run.following),
+        mode,
+    )
+}
+
+/// The same by the word of n characters that a run is, and whether `}` follows.
+fn word_found(
+    alloc: Global,
+    negative: bool,
+    word: Text,
+    count: usize,
+    ends: bool,
+    mode: Mode,
+) -> Result<PropertyFound, OutOfMemory>
+    requires unicode { is_unicode mode ≡ true }
+    requires some { word ≢ [] }
+    requires count { count ≡ length word }
+    requires small { count < 2 ^ 63 }
+    ensures found { IfOk result (λ found. (w following : List ℕ) → HasRun w word following → following ≢ [] → ends ≡ starts ascii.right_brace following
+        → IsFoundIn mode (property_letter negative ∷ ascii.left_brace ∷ w) found) }
+    ensures closed { IfOk result (λ found. (following : List ℕ) → ends ≡ starts ascii.right_brace following → IsClosedIn (3 + count) following found) }
+{
     let lone = lone_word(word.as_str());
     if !is_known(lone, mode) {
-        return Ok(PropertyFound::Halt(unknown(lone, word, run.units.len())));
+        return Ok(PropertyFound::Halt(unknown(lone, word, count)));
     }
-    if !is_closed(&run.following) {
-        return Ok(unterminated(2 + run.units.len()));
+    if !ends {
+        return Ok(unterminated(2 + count));
     }
-    known_found(alloc, negative, lone, word, run.units.len())
+    known_found(alloc, negative, lone, word, count)
 }
 
 /// Whether such a word names a property: one of strings does in sets mode alone.
