@@ -1,5 +1,5 @@
 -- A reader that moves keeps what it reads, and a failure is handed on.
-use Rattle.std.proofs.Common.{◌≡◌, sym, ap, ap₂, ◌∙◌, subst, ℕ, ◌+◌, ◌<◌, ◌≤◌, List, ◌++◌, length, drop, min, Result, Ok, Err, IsErrAnd, OnOk, arith, append_assoc, length-append, length-drop}
+use Rattle.std.proofs.Common.{◌≡◌, sym, ap, ap₂, ◌∙◌, subst, ℕ, ◌+◌, ◌<◌, ◌≤◌, List, ◌++◌, length, drop, min, IfErr, MatchResult, Result, Ok, Err, IsErrAnd, OnOk, arith, append_assoc, length-append, length-drop}
 use Rattle.rx_class.proofs.Common.{drop-drop, CodePoint, Cursor, move_on, rest, KeepsUnits}
 use Rattle.std.proofs.Math.Seq.{drop-append_seam}
 use Rattle.std.proofs.lemmas.List.{drop_min}
@@ -8,6 +8,15 @@ use Rattle.std.proofs.lemmas.List.{drop_min}
 pub handed : {A F : Type 0} (P : Result A F → Type 0) {r : Result A F} {f : F} → IsErrAnd r (λ g. g ≡ f) → P (Err f) → P r
 handed P {r = Ok it} h p = absurd h
 handed P {r = Err g} h p = subst (λ g. P (Err g)) (sym h) p
+
+-- the same of what holds by cases
+pub handed_case : {A F : Type 0} (P : A → Type 0) (Q : F → Type 0) (r : Result A F) {f : F} → IsErrAnd r (λ g. g ≡ f) → Q f → MatchResult r P Q
+handed_case P Q (Ok it) h q = absurd h
+handed_case P Q (Err g) h q = subst Q (sym h) q
+
+pub fault_weaker : {A F : Type 0} (r : Result A F) (P Q : F → Type 0) → ((f : F) → P f → Q f) → IfErr r P → IfErr r Q
+fault_weaker (Ok it) P Q weaker h = tt
+fault_weaker (Err f) P Q weaker h = weaker f h
 
 -- what a call ensures where it ends well, put together
 pub on_ok_three : {A F P Q R S : Type 0} (r : Result A F) → (P → Q → R → S) → OnOk r P → OnOk r Q → OnOk r R → OnOk r S

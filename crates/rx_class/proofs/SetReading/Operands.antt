@@ -1,5 +1,5 @@
 -- Operands of a class with `v` that are read: what they add to what was built, and how what is refused in them is refused in the class.
-use Rattle.std.proofs.Common.{◌≡◌, ◌≢◌, refl, sym, ap, ap₂, ◌∙◌, subst, ℕ, ◌+◌, ◌-◌, ◌<◌, ◌≤◌, Bool, true, false, not, is_some, Option, Some, None, Ok, Err, List, [], ◌∷◌, ◌++◌, length, drop, arith, inl, inr, append_assoc, length-append}
+use Rattle.std.proofs.Common.{◌≡◌, ◌≢◌, refl, sym, ap, ap₂, ◌∙◌, subst, ℕ, ◌+◌, ◌-◌, ◌<◌, ◌≤◌, Bool, true, false, not, is_some, MatchResult, Option, Some, None, Result, Ok, Err, List, [], ◌∷◌, ◌++◌, length, drop, arith, inl, inr, append_assoc, length-append}
 use Rattle.rx_class.proofs.Common.{and_right, le-leb, true≢false, length-map, Diagnostic, Intersection, Fault, Span, Character, CharacterClassEscapeKind, UnicodePropertyEscape, CharacterClassRange}
 use Rattle.rx_class.proofs.Common.{ClassStringDisjunction, Member, CodePoint, Cursor, move_on, offset_of, rest, values, front_is, Mode, is_union, operand, with_range, Atom, ClassEvents}
 use Rattle.rx_class.proofs.Common.{ClassToken, item, leave, token, within, class_tokens_of, member_events, strings_events, strings, strings_end, low as low_end, starts, Environment, is_sets}
@@ -30,7 +30,7 @@ use Rattle.rx_class.specs.SetReading.Answers as given
 use Rattle.rx_class.specs.SetReading.Fronts.{Begins, BeginsProperty}
 use Rattle.rx_class.specs.SetReading.Progress as turn
 use Rattle.rx_class.specs.SetReading.Progress.{IsSetRange}
-use Rattle.rx_class.specs.SetReading.WellBuilt.{TakesOperand}
+use Rattle.rx_class.specs.SetReading.WellBuilt.{HoldsMore, TakesOperand}
 use Rattle.rx_class.proofs.ClassReading.Ranges.{DashStands, PairStands, atom_stands, dash_at, dash_given, dash_whole, pair_given, range_is, atom_events}
 use Rattle.rx_class.proofs.Keeping.{Passes, keeps_on, moved_keeps, passes_keeps, passes_moved, passes_over}
 use Rattle.rx_class.proofs.SetReading.Characters.{no_end_without, no_escape_refused, no_range_end, spelled_set_character, unicode_is}
@@ -201,6 +201,12 @@ module _ (old mid : Cursor) (front : BeginsProperty (rest old)) (moves : mid ≡
         subst (λ place. IsPropertyCause e.mode old.units old.first added place (drop place old.units) d) one_before (subst (λ (r : Cursor). IsPropertyCause e.mode r.units r.first added (r.place - 1) (from_backslash r) d) mid_is cause) in
         by_text (λ e. IsPropertyCause e.mode old.units old.first added old.place (rest old) d → GivesTurn e added old new before after (Err (fault.Diagnostic d))) of
         (λ cause. said_gives d (keeps_on (moved_keeps 1 old mid moves) keeps) (property_says_more d cause) (λ from h. (old.place, class_cause.property_in_class old.place (rest old) (inl (operand_here h takes)) cause))) here
+
+    -- Whatever is answered of one that was read.
+    pub property_turns : {before after : ClassBuilder} {held : HeldState} {it : UnicodePropertyEscape} (given : Result (Unit {0}) Fault) → TakesOperand before held → IsOfSets e old → start ≡ offset_of old
+        → GivesProperty e added start mid new (Ok (Some it)) → MatchResult given (λ none. HoldsMore before after (tree.property it) held) (λ given. given ≡ fault.OutOfMemory) → GivesTurn e added old new before after given
+    property_turns (Ok tt) takes of at gives more = turn.adds (property_adds takes more.holds more.well at gives more.events of)
+    property_turns {before} {after} (Err _) takes of at gives none = subst (λ given. GivesTurn e added old new before after (Err given)) (sym none) (turn.no_memory (property_keeps at gives))
 
 pub property_sound : {e : Environment} {added start : ℕ} {old new : Cursor} {it : UnicodePropertyEscape} → GivesProperty e added start old new (Ok (Some it)) → IsSound (tree.property it)
 property_sound {e = e} {it = it} (property_answer.some backslash w more whole spelled no_strings span moves) =

@@ -1,15 +1,15 @@
 -- What has been read of a class whose brackets nest obeys the grammar (22.2.1), and has no early error (22.2.1.1).
-use Rattle.std.specs.Prelude.{◌≡◌, All, IsSome, Some, [], ◌∷◌}
+use Rattle.std.specs.Prelude.{◌≡◌, All, IsSome, Some, [], ◌∷◌, ◌++◌}
 use Rattle.rx_ast.specs.ClassTree.{Member, Members, no_member, member}
 use Rattle.rx_model.specs.Classes.ClassFromTokens.{kind_of}
 use Rattle.rx_model.specs.Classes.ClassRuns.{Held, empty, single, several, pending, joined, class_run_from_start, operand}
 use Rattle.rx_model.specs.Classes.ClassShapes.{AreFitting, AreFlagged, AreOperands, AreTwo, IsFittingMember, IsFlaggedMember}
-use Rattle.rx_model.specs.Classes.ClassTokens.{class_tokens_of}
+use Rattle.rx_model.specs.Classes.ClassTokens.{class_tokens_of, member_events}
 use Rattle.rx_model.specs.Trees.Early.{AreEarlyMembers, IsEarlyMember, may_contain_strings}
 use Rattle.rx_class.specs.declared.sets.builder.ClassBuilder.{ClassBuilder}
 use Rattle.rx_class.specs.declared.sets.open_bracket.OpenBracket.{OpenBracket}
 use Rattle.rx_class.specs.declared.sets.held.Held.{Held as HeldState}
-use Rattle.rx_class.specs.SetReading.BuilderEvents.{bracket_at, bracket_events}
+use Rattle.rx_class.specs.SetReading.BuilderEvents.{bracket_at, bracket_events, builder_events}
 use Rattle.rx_class.specs.ClassReading.Items.{contents}
 use Rattle.rx_class.specs.SetReading.HeldMirror.{mirror_held}
 
@@ -65,3 +65,9 @@ pub record IsWellBuilt (b : ClassBuilder) : Type 0 where
 pub record TakesOperand (b : ClassBuilder) (after : HeldState) : Type 0 where
   pub well : IsWellBuilt b
   pub held : operand (mirror_held b.inner.held) ≡ Some (mirror_held after)
+
+-- An operand or a range was added, after which the innermost bracket holds this.
+pub record HoldsMore (before after : ClassBuilder) (m : Member) (held : HeldState) : Type 0 where
+  pub events : builder_events after ≡ builder_events before ++ member_events m
+  pub holds : mirror_held after.inner.held ≡ mirror_held held
+  pub well : IsWellBuilt after

@@ -1,11 +1,11 @@
-ghost use Rattle.std.specs.Prelude.{◌≡◌, ◌≤◌, All, IfOk, Some, false, codes};
+ghost use Rattle.std.specs.Prelude.{◌≡◌, ◌≤◌, All, Err, IfOk, MatchResult, Ok, Some, false, codes};
 ghost use Rattle.rx_base.specs.Ascii as ascii;
 ghost use Rattle.rx_base.specs.declared.diagnostic.kinds.SetOperator.TheVariants.{Intersection};
 ghost use Rattle.rx_base.specs.Rising.{Rises};
 ghost use Rattle.rx_ast.specs.ClassTree as ClassTree;
 ghost use Rattle.rx_ast.specs.ClassTree.{mirror_contents};
 ghost use Rattle.rx_ast.specs.Texts.{class_escape_text};
-ghost use Rattle.rx_units.specs.Cursor.{Cursor, rest};
+ghost use Rattle.rx_units.specs.Cursor.{Cursor, move_on, offset_of, rest};
 ghost use Rattle.rx_units.specs.Pace.{TakesSteps};
 ghost use Rattle.rx_units.specs.Units.{values};
 ghost use Rattle.rx_model.specs.Classes.ClassRuns.{with_range as after_range};
@@ -13,13 +13,14 @@ ghost use Rattle.rx_model.specs.FirstPass.Marks.{starts};
 ghost use Rattle.rx_model.specs.Inputs.Environment.{Environment};
 ghost use Rattle.rx_model.specs.Classes.ClassRows.{after_operator};
 ghost use Rattle.rx_class.specs.EscapeReading.Answers.{environment_of};
+ghost use Rattle.rx_class.specs.PropertyReading.Answers.{GivesProperty};
 ghost use Rattle.rx_class.specs.SetReading.FrontSeen.{seen_character};
 ghost use Rattle.rx_class.specs.SetReading.HeldMirror.{mirror_held};
 ghost use Rattle.rx_class.specs.SetReading.Answers.{IsAfterDash};
 ghost use Rattle.rx_class.specs.SetReading.Fronts.{Begins, BeginsProperty, set_character_at};
 ghost use Rattle.rx_class.specs.SetReading.Progress.{GivesTurn, IsOfSets, IsRangeNext, IsSetRange, innermost_held, place_of};
 ghost use Rattle.rx_class.specs.SetReading.Steps.{TakesStepsAfter, most_next_looks, most_set_looks};
-ghost use Rattle.rx_class.specs.SetReading.WellBuilt.{IsWellBuilt, TakesOperand};
+ghost use Rattle.rx_class.specs.SetReading.WellBuilt.{HoldsMore, IsSound, IsWellBuilt, TakesOperand};
 
 use crate::classes::atom::ClassAtom;
 use crate::classes::item::range_contents;
@@ -29,7 +30,7 @@ use crate::sets::character::{SetCharacter, range_end_at};
 use crate::sets::held::Held;
 use rx_ast::{
     Character, CharacterClassContents, CharacterClassEscape, CharacterClassEscapeKind,
-    CharacterClassRange, ClassStringDisjunction,
+    CharacterClassRange, ClassStringDisjunction, UnicodePropertyEscape,
 };
 use rx_base::{Counter, Diagnostic, Fault, OutOfMemory, RangeKind, Span};
 use rx_units::{Ahead, Unit, UnitSource};
@@ -92,14 +93,26 @@ impl<S: UnitSource, C: Counter> Reading<'_, '_, '_, '_, '_, S, C> {
         ensures steps { TakesSteps 6 (C.count self.old.steps.now) (C.count self.new.steps.now) self.old.reader.now self.new.reader.now result }
         ensures on { ReadsOn self.old self.new }
     {
+        let escape = self.property_here()?;
+        push_property(self.alloc, builder, escape, after)
+    }
+
+    /// Reads the property escape at the place, and moves over it.
+    fn property_here(&mut self) -> Result<UnicodePropertyEscape, Fault>
+        requires front { BeginsProperty (rest self.old.reader.now) }
+        requires sets { IsOfSets (environment_of self.old.state.now) self.old.reader.now }
+        ensures gives { MatchResult result
+            (λ it. GivesProperty (environment_of self.old.state.now) self.old.spans.now (offset_of self.old.reader.now) (move_on 1 self.old.reader.now) self.new.reader.now (Ok (Some it)))
+            (λ fault. GivesProperty (environment_of self.old.state.now) self.old.spans.now (offset_of self.old.reader.now) (move_on 1 self.old.reader.now) self.new.reader.now (Err fault)) }
+        ensures steps { TakesSteps 6 (C.count self.old.steps.now) (C.count self.new.steps.now) self.old.reader.now self.new.reader.now result }
+        ensures on { ReadsOn self.old self.new }
+    {
         let start = self.offset();
         self.advance();
         let Some(it) = self.property_escape(start)? else {
             unreachable!();
         };
-        let may = it.strings;
-        let contents = ClassAtom::Property(it).into_contents(self.alloc)?;
-        Ok(builder.push(contents, may, after)?)
+        Ok(it)
     }
 
     /// Reads the character that was found at the place as an operand, after which the innermost bracket holds `after`; or in a union
@@ -150,6 +163,22 @@ impl<S: UnitSource, C: Counter> Reading<'_, '_, '_, '_, '_, S, C> {
         let contents = range_contents(self.alloc, range(low, high)?)?;
         Ok(builder.push(contents, false, ranged)?)
     }
+}
+
+/// Adds a property escape. After it the innermost bracket holds `after`.
+fn push_property(
+    alloc: Global,
+    builder: &mut ClassBuilder,
+    escape: UnicodePropertyEscape,
+    after: Held,
+) -> Result<(), Fault>
+    requires takes { TakesOperand builder.old after }
+    requires sound { IsSound (ClassTree.property escape) }
+    ensures { MatchResult result (λ none. HoldsMore builder.old builder.new (ClassTree.property escape) after) (λ fault. fault ≡ Fault.OutOfMemory) }
+{
+    let may = escape.strings;
+    let contents = ClassAtom::Property(escape).into_contents(alloc)?;
+    Ok(builder.push(contents, may, after)?)
 }
 
 /// Class strings as contents of a class.
