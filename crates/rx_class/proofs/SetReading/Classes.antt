@@ -1,12 +1,12 @@
 -- A class with `v`, from its bracket to its end: what its turns add up to, and what is answered.
-use Rattle.std.proofs.Common.{◌≡◌, refl, sym, ap, ◌∙◌, subst, ℕ, ◌+◌, ◌-◌, ◌<◌, Bool, true, Ok, Err, Some, List, [], ◌∷◌, ◌++◌, length, min, arith, append_assoc, if◌then◌else◌}
+use Rattle.std.proofs.Common.{◌≡◌, refl, sym, ap, ◌∙◌, subst, ℕ, ◌+◌, ◌-◌, ◌<◌, Bool, true, MatchResult, Result, Ok, Err, Some, List, [], ◌∷◌, ◌++◌, length, min, arith, append_assoc, if◌then◌else◌}
 use Rattle.rx_class.proofs.Common.{same_from_push, Fault, CharacterClass, no_member, mirror_class, CodePoint, Cursor, move_on, offset_of, rest, values, empty, IsFitting, IsFlagged, bracket, class_events}
-use Rattle.rx_class.proofs.Common.{class_tokens_of, closer, enter, item, leave, token, IsEarlyClass, starts, Environment, IsFirstInClass, ClassBuilder, BeginsNoClass, GivesClass}
+use Rattle.rx_class.proofs.Common.{class_tokens_of, closer, enter, item, leave, token, IsEarlyClass, starts, Environment, IsFirstInClass, ClassBuilder, BeginsNoClass, GivesClass, GivesOneClass}
 use Rattle.rx_class.proofs.Common.{builder_events, KeepsUnits, AddsToSets, GivesTurn, IsInSets, IsOfSets, adds, innermost_held, offset_in, place_of, IsWellBuilt}
 use Rattle.rx_units.specs.Cursor.{begins}
 use Rattle.rx_model.specs.Classes.ClassRows.{ClassRow, fresh, outside}
 use Rattle.rx_class.specs.ClassReading.Answers as class_answer
-use Rattle.rx_class.specs.SetReading.Progress.{EndsSets, no_memory, refused}
+use Rattle.rx_class.specs.SetReading.Progress.{ClosesSets, EndsSets, no_memory, refused}
 use Rattle.rx_class.proofs.ClassReading.Ends.{IsInClass, begins_class, no_class_there}
 use Rattle.rx_class.proofs.ClassReading.Items.{rows_append}
 use Rattle.rx_class.proofs.Keeping.{Passes, keeps_on, passes_keeps, passes_moved}
@@ -87,3 +87,8 @@ module _ {e : Environment} {added : ℕ} {from r : Cursor} {b : ClassBuilder} (o
 
       all : new ≡ move_on (length spelled.0) from
       all = keeps.same ∙ ap (λ place. record from { place = place }) (let k : new.place ≡ min (from.place + length spelled.0) (length from.units) = omega (arith, spelled.2, keeps.within) in k)
+
+  -- Whatever is answered at the class's own `]`.
+  pub sets_given : (new : Cursor) (given : Result CharacterClass Fault) → EndsSets r b → MatchResult given (ClosesSets added r new b) (λ cause. GivesTurn e added r new b b (Err cause)) → GivesOneClass e added from new given
+  sets_given new (Ok it) ends closes = sets_give new _ it ends closes.moves refl closes.events closes.fitting closes.flagged closes.early
+  sets_given new (Err cause) ends gives = refuses_class gives

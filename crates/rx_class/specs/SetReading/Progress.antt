@@ -10,19 +10,23 @@ use Rattle.rx_base.specs.declared.diagnostic.kinds.SetOperator.TheVariants.{Inte
 use Rattle.rx_base.specs.declared.fault.Fault.{Fault}
 use Rattle.rx_base.specs.declared.fault.Fault.TheVariants as fault
 use Rattle.rx_ast.specs.declared.leaf.Character.{Character}
+use Rattle.rx_ast.specs.ClassTree.{mirror_class}
+use Rattle.rx_ast.specs.declared.class.CharacterClass.{CharacterClass}
 use Rattle.rx_ast.specs.declared.class.CharacterClassRange.{CharacterClassRange}
 use Rattle.rx_units.specs.declared.code_point.CodePoint.{CodePoint}
-use Rattle.rx_units.specs.Cursor.{Cursor, offset_of, rest}
+use Rattle.rx_units.specs.Cursor.{Cursor, move_on, offset_of, rest}
 use Rattle.rx_units.specs.Units.{offset_at, values}
 use Rattle.rx_model.specs.Characters.EscapeFronts.{nothing}
 use Rattle.rx_model.specs.Classes.ClassRows.{ClassRow, Place, outside, fresh, after_operator}
 use Rattle.rx_model.specs.Classes.ClassRuns.{Held, empty, is_union, is_whole, operator_of, with_range, takes_operand}
-use Rattle.rx_model.specs.Classes.ClassTokens.{Atom, ClassEvents, ClassToken, class_tokens_of, is_character, item}
+use Rattle.rx_model.specs.Classes.ClassTokens.{Atom, ClassEvents, ClassToken, class_events, class_tokens_of, closer, is_character, item, leave, token}
+use Rattle.rx_model.specs.Classes.ClassShapes.{IsFitting, IsFlagged}
 use Rattle.rx_model.specs.FirstPass.Marks.{starts}
 use Rattle.rx_model.specs.Inputs.Environment.{Environment, is_sets}
 use Rattle.rx_model.specs.Refusals.ClassCauses.{NothingFollows, unterminated}
 use Rattle.rx_model.specs.Refusals.EscapeCauses.{IsEscapeCause}
 use Rattle.rx_model.specs.Refusals.Firsts.{IsFirstInClass}
+use Rattle.rx_model.specs.Trees.Early.{IsEarlyClass}
 use Rattle.rx_class.specs.declared.sets.builder.ClassBuilder.{ClassBuilder}
 use Rattle.rx_class.specs.declared.sets.open_bracket.OpenBracket.{OpenBracket}
 use Rattle.rx_class.specs.declared.sets.character.SetCharacter.{SetCharacter}
@@ -130,6 +134,14 @@ pub record EndsSets (r : Cursor) (b : ClassBuilder) : Type 0 where
   pub closer : starts ascii.right_bracket (values (rest r)) ≡ true
   pub outermost : b.outer ≡ []
   pub whole : is_whole (innermost_held b) ≡ true
+
+-- Its own `]` is read, and all that was built is this class.
+pub record ClosesSets (added : ℕ) (old new : Cursor) (b : ClassBuilder) (it : CharacterClass) : Type 0 where
+  pub moves : new ≡ move_on 1 old
+  pub events : class_events (mirror_class it) ≡ builder_events b ++ token closer ∷ leave (offset_of new + added) ∷ []
+  pub fitting : IsFitting (mirror_class it)
+  pub flagged : IsFlagged (mirror_class it)
+  pub early : IsEarlyClass (mirror_class it)
 
 -- What comes of two characters as the ends of a range: the range, or its refusal (22.2.1.1).
 pub data IsSetRange (min max : Character) : Result CharacterClassRange Diagnostic → Type 0 where

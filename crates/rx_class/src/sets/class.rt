@@ -1,4 +1,4 @@
-ghost use Rattle.std.specs.Prelude.{◌≡◌, ◌↔◌, IsTrue, true};
+ghost use Rattle.std.specs.Prelude.{◌≡◌, ◌↔◌, Err, IsTrue, MatchResult, true};
 ghost use Rattle.rx_base.specs.Ascii as ascii;
 ghost use Rattle.rx_units.specs.Cursor.{rest};
 ghost use Rattle.rx_units.specs.Pace.{TakesSteps};
@@ -6,7 +6,7 @@ ghost use Rattle.rx_units.specs.Units.{values};
 ghost use Rattle.rx_model.specs.FirstPass.Marks.{starts};
 ghost use Rattle.rx_class.specs.ClassReading.Answers.{GivesOneClass};
 ghost use Rattle.rx_class.specs.EscapeReading.Answers.{environment_of};
-ghost use Rattle.rx_class.specs.SetReading.Progress.{EndsSets, GivesTurn, IsOfSets};
+ghost use Rattle.rx_class.specs.SetReading.Progress.{ClosesSets, EndsSets, GivesTurn, IsOfSets};
 ghost use Rattle.rx_class.specs.SetReading.WellBuilt.{IsWellBuilt};
 
 use crate::reading::Reading;
@@ -33,14 +33,9 @@ impl<S: UnitSource, C: Counter> Reading<'_, '_, '_, '_, '_, S, C> {
         let negative = self.class_opener();
         let mut builder = ClassBuilder::new(self.alloc, start, negative);
         while !self.set_class_ends(&builder) {
-            if self.take_common_turn(&mut builder)? {
-                continue;
-            }
-            self.read_turn(&mut builder)?;
+            self.take_turn(&mut builder)?;
         }
-        self.refuse_negative_strings(&builder)?;
-        self.advance();
-        Ok(builder.finish(self.here().start))
+        self.finish_sets(builder)
     }
 
     /// Whether the class's own `]` is at the place, and its contents are whole.
@@ -48,6 +43,37 @@ impl<S: UnitSource, C: Counter> Reading<'_, '_, '_, '_, '_, S, C> {
         ensures { IsTrue result ↔ EndsSets self.now.reader.now builder.now }
     {
         begins_with(&self.units(), ']') && builder.is_outermost() && builder.inner.held.is_whole()
+    }
+
+    /// Reads the class's own `]`, which is at the place, and gives the class.
+    fn finish_sets(&mut self, builder: ClassBuilder) -> Result<CharacterClass, Fault>
+        requires ends { EndsSets self.old.reader.now builder }
+        requires sets { IsOfSets (environment_of self.old.state.now) self.old.reader.now }
+        requires well { IsWellBuilt builder }
+        ensures gives { MatchResult result (ClosesSets self.old.spans.now self.old.reader.now self.new.reader.now builder)
+            (λ fault. GivesTurn (environment_of self.old.state.now) self.old.spans.now self.old.reader.now self.new.reader.now builder builder (Err fault)) }
+        ensures steps { TakesSteps 6 (C.count self.old.steps.now) (C.count self.new.steps.now) self.old.reader.now self.new.reader.now result }
+        ensures on { ReadsOn self.old self.new }
+    {
+        self.refuse_negative_strings(&builder)?;
+        self.advance();
+        Ok(builder.finish(self.here().start))
+    }
+
+    /// Reads what is at the place in the innermost open bracket, but for the class's own `]`: first as what is common.
+    #[inline(always)]
+    fn take_turn(&mut self, builder: &mut ClassBuilder) -> Result<(), Fault>
+        requires sets { IsOfSets (environment_of self.old.state.now) self.old.reader.now }
+        requires well { IsWellBuilt builder.old }
+        requires goes_on { EndsSets self.old.reader.now builder.old → ⊥ }
+        ensures gives { GivesTurn (environment_of self.old.state.now) self.old.spans.now self.old.reader.now self.new.reader.now builder.old builder.new result }
+        ensures steps { TakesSteps 6 (C.count self.old.steps.now) (C.count self.new.steps.now) self.old.reader.now self.new.reader.now result }
+        ensures on { ReadsOn self.old self.new }
+    {
+        if self.take_common_turn(builder)? {
+            return Ok(());
+        }
+        self.read_turn(builder)
     }
 
     /// Reads what is at the place in the innermost open bracket, but for the class's own `]`.
