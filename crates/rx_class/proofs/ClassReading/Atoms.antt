@@ -21,7 +21,7 @@ use Rattle.rx_model.specs.Characters.Escapes.{SpellsEscape, control, hexadecimal
 use Rattle.rx_model.specs.Refusals.Stops.{begins_class_escape, is_hyphen_escaped, is_letter, two_hex_digits}
 use Rattle.rx_class.specs.declared.classes.atom.ClassAtom.TheVariants as atom
 use Rattle.rx_class.specs.EscapeReading.Answers as given
-use Rattle.rx_class.specs.ClassReading.Items.{BeginsNone, IsCommonAtom, kind_in_class}
+use Rattle.rx_class.specs.ClassReading.Items.{BeginsNone, IsCommonAtom, StandsOneUnit, kind_in_class}
 use Rattle.rx_class.specs.ClassReading.Items as answer
 use Rattle.rx_class.specs.EscapeReading.Found as found
 use Rattle.rx_class.specs.PropertyReading.Answers.{GivesProperty}
@@ -31,6 +31,7 @@ use Rattle.rx_class.proofs.PropertyReading.Spans.{cut_off, next_span}
 use Rattle.rx_model.specs.Classes.ClassFronts.{atom_at, atom_read}
 use Rattle.rx_model.proofs.Classes.ClassFronts.{AtomFront, atom_found, atom_is_read}
 use Rattle.rx_class.specs.declared.classes.atom.CommonAtom.{CommonAtom}
+use Rattle.rx_class.specs.declared.classes.atom.OneUnit.{OneUnit}
 use Rattle.rx_class.specs.declared.escapes.common.CommonEscape.{CommonEscape}
 use Rattle.rx_class.specs.EscapeReading.CommonEscapes.{IsCommonEscape}
 use Rattle.rx_model.proofs.Characters.Escapes.{escape_nothing}
@@ -213,6 +214,10 @@ no_property_there : {e : Environment} {added start : ℕ} {old new : Cursor} →
     → (new ≡ old) × (is_unicode e.mode ≡ true → front_is begins_property (values (rest old)) ≡ false)
 no_property_there (given_property.none stays (inl never)) = (stays, λ u. absurd (true≢false (sym u ∙ never)))
 no_property_there (given_property.none stays (inr never)) = (stays, λ u. never)
+
+-- What was found of the units at the place is so of what is left.
+pub one_unit_stands : {unicode mode : Bool} {us left : List CodePoint} (found : Option OneUnit) → unicode ≡ mode → us ≡ left → StandsOneUnit unicode (values us) found → StandsOneUnit mode (values left) found
+one_unit_stands {unicode} {left = left} found same whole stands = subst (λ unicode. StandsOneUnit unicode (values left) found) same (subst (λ us. StandsOneUnit unicode (values us) found) whole stands)
 
 -- After the backslash stands no escape that was asked for so far.
 pub nothing_so_far : {e : Environment} {added start : ℕ} {old new : Cursor} {us vs : List CodePoint} {o : Option UnicodePropertyEscape} → us ≡ rest old → vs ≡ rest old

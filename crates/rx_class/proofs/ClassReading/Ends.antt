@@ -1,9 +1,9 @@
 -- A class whose items are read one after another: where its reader stands, and what it answers.
-use Rattle.std.proofs.Common.{◌≡◌, refl, sym, ap, ap₂, ◌∙◌, subst, ℕ, ◌+◌, ◌-◌, ◌<◌, ◌==◌, Bool, true, false, Ok, Err, Some, is_some, List, [], ◌∷◌, ◌++◌, length, if◌then◌else◌, arith, append-nil, append_assoc, length-append}
+use Rattle.std.proofs.Common.{◌≡◌, refl, sym, ap, ap₂, ◌∙◌, subst, ℕ, ◌+◌, ◌-◌, ◌<◌, ◌==◌, Bool, true, false, MatchResult, Result, Ok, Err, Some, is_some, List, [], ◌∷◌, ◌++◌, length, if◌then◌else◌, arith, append-nil, append_assoc, length-append}
 use Rattle.rx_class.proofs.Common.{and-false, and-true, Diagnostic, UnterminatedPattern, Fault, Span, CharacterClass, CharacterClassContents, Members, no_member, mirror_class, CodePoint}
 use Rattle.rx_class.proofs.Common.{Cursor, front, move_on, offset_of, rest, values, Mode, IsInBracket, IsItemPlace, of_class, bracket_of, empty, bracket, closer, leave, token}
 use Rattle.rx_class.proofs.Common.{members_events, more_members_events, Environment, is_sets, starts, span_between, class_environment, token_some, union_tokens, class_row_tokens}
-use Rattle.rx_class.proofs.Common.{ClassItem, span_to, BeginsNoClass, GivesClass, GivesItem, IsItem, IsOfText, contents, item_members, KeepsUnits, offset_in}
+use Rattle.rx_class.proofs.Common.{ClassItem, span_to, BeginsNoClass, GivesClass, GivesOneClass, GivesItem, IsItem, IsOfText, contents, item_members, KeepsUnits, offset_in}
 use Rattle.rx_base.specs.declared.diagnostic.kinds.Unterminated.TheVariants as what
 use Rattle.rx_base.specs.declared.fault.Fault.TheVariants as fault
 use Rattle.rx_ast.specs.declared.class.CharacterClassContentsKind.TheVariants.{Union}
@@ -18,10 +18,10 @@ use Rattle.rx_model.proofs.Classes.ClassStates.{opened_union}
 use Rattle.rx_model.proofs.Classes.ClassTokens.{members_are, more_tokens_are}
 use Rattle.rx_model.proofs.Classes.OneInClass.{class_cause_is_first}
 use Rattle.rx_class.specs.ClassReading.Answers as class_answer
-use Rattle.rx_class.specs.ClassReading.Items.{item_contents}
+use Rattle.rx_class.specs.ClassReading.Items.{RefusesItem, item_contents}
 use Rattle.rx_class.specs.ClassReading.Items as item_answer
 use Rattle.rx_class.proofs.ClassReading.Items.{AreItems, items_push, rows_append}
-use Rattle.rx_class.proofs.Keeping.{Passes, keeps_on, passes_keeps, passes_moved, passes_on, passes_over}
+use Rattle.rx_class.proofs.Keeping.{Passes, keeps_on, moved_keeps, passes_keeps, passes_moved, passes_on, passes_over}
 use Rattle.rx_class.proofs.SetReading.Refusals.{unit_next}
 
 -- From the bracket at a reader's old place, items lead to its new one.
@@ -140,6 +140,12 @@ module _ {e : Environment} {added : ℕ} {old mid : Cursor} {negative : Bool} {m
         first_gives new c.0 diagnostic c.1 (keeps_on (passes_keeps h.passes) keeps)
     refused_gives new _ (item_answer.no_memory keeps) = class_answer.no_memory (keeps_on (passes_keeps h.passes) keeps)
 
+    -- Whatever refuses the next item.
+    pub item_refused : (new : Cursor) (start : ℕ) (cause : Fault) → start ≡ offset_of old → RefusesItem e added start mid new cause → GivesClass e added old new (Err cause)
+    item_refused new start cause s (item_answer.refused_item gives) = refused_gives new cause gives
+    item_refused new start _ s (item_answer.no_end {span = span} none stays is) =
+        subst (λ new. GivesClass e added old new (Err (fault.Diagnostic (UnterminatedPattern span what.CharacterClass)))) (sym stays) (unterminated_gives start span none s is)
+
   -- An item is read, and pushed after the others: fewer units are left.
   pub item_gives : (body : List CharacterClassContents) {new : Cursor} {it : ClassItem} → ms ≡ contents body → GivesItem e added mid new (Ok it) →
       IsInClass e added old new negative (contents (body ++ item_contents it)) × (length new.units - new.place < length mid.units - mid.place)
@@ -220,3 +226,10 @@ module _ {e : Environment} {added : ℕ} {old mid : Cursor} {negative : Bool} {m
           (rows_append e offset (members_events [] ms) (token closer ∷ []) fresh (old.place + length h.w) (inside ++ rest new) fresh mid.place (u.0 ∷ rest new) fresh (mid.place + 1) (rest new) items_row
           (u.0 ∷ [], rest new, refl, ap (λ c. c ∷ []) u.1, (refl, refl, refl)))
           (end_is, (refl, ap (λ (r : Cursor). r.place) (sym u.2.moves ∙ all.moves), refl))
+
+  -- Whatever is answered at the closer.
+  pub closed_gives : (new : Cursor) (start : ℕ) (given : Result CharacterClass Fault) → starts 93 (values (rest mid)) ≡ true → new ≡ move_on 1 mid → start ≡ offset_of old
+      → MatchResult given (λ it. (it.span ≡ span_to added start new) × (mirror_class it ≡ class it.span negative false Union ms)) (λ given. given ≡ fault.OutOfMemory) → GivesOneClass e added old new given
+  closed_gives new start (Ok it) closes moves s is = class_gives new start it closes moves s is.0 is.1
+  closed_gives new start (Err _) closes moves s none =
+      subst (λ given. GivesClass e added old new (Err given)) (sym none) (class_answer.no_memory (keeps_on (passes_keeps h.passes) (moved_keeps 1 mid new moves)))

@@ -1,10 +1,10 @@
 -- An item of a class is an atom, or a range of two atoms with a `-` between them.
-use Rattle.std.proofs.Common.{◌≡◌, refl, sym, ap, ◌∙◌, subst, ℕ, ◌+◌, ◌<◌, ◌≤◌, ◌==◌, Bool, true, false, not, ◌&&◌, Ok, Err, List, [], ◌∷◌, ◌++◌, length, drop, arith, inl, inr, append_assoc, length-append}
-use Rattle.rx_class.proofs.Common.{eqb-true, true≢false, not-true, Diagnostic, Fault, Span, Character, CharacterClassContents, CharacterClassRange, mirror_contents, CodePoint}
+use Rattle.std.proofs.Common.{◌≡◌, refl, sym, ap, ◌∙◌, subst, ℕ, ◌+◌, ◌<◌, ◌≤◌, ◌==◌, Bool, true, false, not, ◌&&◌, IfErr, MatchResult, OnOk, Result, Ok, Err, List, [], ◌∷◌, ◌++◌, length, drop, arith, inl, inr, append_assoc, length-append}
+use Rattle.rx_class.proofs.Common.{cases_Bool, eqb-true, true≢false, not-true, Diagnostic, Fault, Span, Character, CharacterClassContents, CharacterClassRange, mirror_contents, CodePoint}
 use Rattle.rx_class.proofs.Common.{Cursor, move_on, offset_of, rest, offset_at, values, starts, IsItemPlace, IsSecondPlace, atom_obeys, Atom, character, item, leave, member_events}
 use Rattle.rx_class.proofs.Common.{token, within, IsEarlyMember, member_strings, Environment, is_sets, is_unicode, span_between, class_environment, both, atom_some, unicode_alone}
 use Rattle.rx_class.proofs.Common.{strings_by_name, ClassAtom, ClassItem, span_to, GivesAtom, GivesItem, IsItem, IsOfText, IsPlain, StandsItem, atom_member, atom_of, atom_span, between}
-use Rattle.rx_class.proofs.Common.{item_members}
+use Rattle.rx_class.proofs.Common.{KeepsUnits, item_members}
 use Rattle.std.proofs.lemmas.Bool.{leb-true}
 use Rattle.rx_base.specs.declared.fault.Fault.TheVariants as fault
 use Rattle.rx_ast.specs.declared.leaf.CharacterKind.TheVariants as kinds
@@ -16,9 +16,9 @@ use Rattle.rx_model.proofs.Classes.ClassFronts.{after_first, after_one}
 use Rattle.rx_model.proofs.Classes.PieceClasses.{legacy_threes}
 use Rattle.rx_class.specs.declared.classes.atom.ClassAtom.TheVariants as atom
 use Rattle.rx_class.specs.declared.classes.item.ClassItem.TheVariants as given_item
-use Rattle.rx_class.specs.ClassReading.Items.{IsAtomCause, IsBetween, IsItemCause, hyphen_member}
+use Rattle.rx_class.specs.ClassReading.Items.{AddsItem, AddsRange, IsAtomCause, IsBetween, IsItemCause, IsRangeItem, are_three, hyphen_member}
 use Rattle.rx_class.specs.ClassReading.Items as items
-use Rattle.rx_class.proofs.Keeping.{Passes, keeps_from, passes_keeps, passes_moved, passes_on, passes_over}
+use Rattle.rx_class.proofs.Keeping.{Passes, keeps_from, moved_keeps, passes_keeps, passes_moved, passes_on, passes_over}
 use Rattle.rx_class.proofs.ClassReading.Places.{operand_place}
 use Rattle.rx_class.proofs.Modes.{no_strings}
 use Rattle.rx_class.proofs.PropertyReading.Spans.{next_span}
@@ -26,10 +26,6 @@ use Rattle.rx_class.proofs.PropertyReading.Spans.{next_span}
 -- Two atoms that are no range are three items but with `u`.
 unless_three : {unicode characters : Bool} → characters ≡ false → (not unicode && not characters) ≡ false → unicode ≡ true
 unless_three {unicode} {characters} apart no_three = grind (arith, apart, no_three)
-
--- what is asked of two atoms, by the environment
-pub three_test : {mode unicode test answer : Bool} (characters : Bool) → unicode ≡ mode → test ≡ (not unicode && not characters) → test ≡ answer → (not mode && not characters) ≡ answer
-three_test characters same is_test is_answer = ap (λ unicode. not unicode && not characters) (sym same) ∙ sym is_test ∙ is_answer
 
 -- a `-` at the front, after which an item may stand
 record DashFront (us : List CodePoint) : Type 0 where
@@ -113,12 +109,22 @@ module _ (e : Environment) (added : ℕ) (old : Cursor) where
     no_strings = rw (atom_no_strings e it w more no_sets s) refl;
   }
 
-  pub alone_gives : {new : Cursor} {it : ClassAtom} {given : CharacterClassContents} {us : List CodePoint} {b : Bool} → is_sets e.mode ≡ false → GivesAtom e added old new (Ok it) → us ≡ rest new
-      → b ≡ is_dashed (values us) → b ≡ false → mirror_contents given ≡ atom_member it → GivesItem e added old new (Ok (given_item.One given))
+  pub alone_gives : {new : Cursor} {it : ClassAtom} {given : ClassItem} {us : List CodePoint} {b : Bool} → is_sets e.mode ≡ false → GivesAtom e added old new (Ok it) → us ≡ rest new
+      → b ≡ is_dashed (values us) → b ≡ false → item_members given ≡ atom_member it ∷ [] → GivesItem e added old new (Ok given)
   alone_gives {new} {it} {given} {us} {b} no_sets g same is_test is_false m =
       let f = atom_stands old.place new it g in
       let alone = ap (λ us. is_dashed (values us)) (sym same) ∙ sym is_test ∙ is_false in
       items.some f.w (rest new) f.passes.whole (rw m (alone_is it f.w (rest new) no_sets f.spelled f.obeys alone f.span)) (passes_over f.passes)
+
+  -- Whatever is answered of the atom alone.
+  pub one_gives : {new : Cursor} {it : ClassAtom} {us : List CodePoint} {b : Bool} (given : Result ClassItem Fault) → is_sets e.mode ≡ false → GivesAtom e added old new (Ok it) → us ≡ rest new → b ≡ is_dashed (values us) → b ≡ false
+      → MatchResult given (λ given. item_members given ≡ atom_member it ∷ []) (λ given. given ≡ fault.OutOfMemory) → GivesItem e added old new given
+  one_gives (Ok given) no_sets g same is_test is_false m = alone_gives no_sets g same is_test is_false m
+  one_gives {new} (Err _) no_sets g same is_test is_false none = subst (λ given. GivesItem e added old new (Err given)) (sym none) (out_of_memory g)
+
+  -- A reader that moved over an item keeps what it reads.
+  pub item_keeps : {new : Cursor} {it : ClassItem} → GivesItem e added old new (Ok it) → KeepsUnits old new
+  item_keeps (items.some w more whole is moves) = moved_keeps (length w) _ _ moves
 
   -- An atom and the `-` of a range stand at a reader's place, and the reader moved over both.
   pub record DashStands (new : Cursor) (it : ClassAtom) (hyphen_at : Span) : Type 0 where
@@ -297,6 +303,13 @@ module _ (e : Environment) (added : ℕ) (old : Cursor) where
     range_gives _ _ _ given {h} p (items.range {min = min} {max = max} ordered) m =
         items.some (p.dash.w ++ (p.dash.hyphen ∷ p.second.w)) (rest new) p.passes.whole (rw m (range_is min max ordered p)) (passes_over p.passes)
 
+    -- Whatever is answered of two atoms that are not three items.
+    pub range_item_gives : (low high : ClassAtom) (given : Result ClassItem Fault) {h : Span} → is_sets e.mode ≡ false → are_three (is_unicode e.mode) (atom_of low) (atom_of high) ≡ false → PairStands new low high h
+        → IsRangeItem low high given → GivesItem e added old new given
+    range_item_gives low high _ no_sets no_three p (items.range {range = range} {given = given} between m) = range_gives low high range given p between m
+    range_item_gives low high _ no_sets no_three p (items.refused {diagnostic = d} between) = range_refused no_sets low high d no_three p between
+    range_item_gives low high _ no_sets no_three p items.no_memory = pair_out_of_memory p
+
     -- So is one whose atoms were found before the reader moved.
     pub common_range_gives : {to mid : Cursor} {min max : Character} {given : CharacterClassContents} → is_dashed (values (rest to)) ≡ true → GivesAtom e added old to (Ok (atom.Character min)) → mid ≡ move_on 1 to
         → GivesAtom e added mid new (Ok (atom.Character max)) → min.value ≤ max.value → mirror_contents given ≡ tree.range (record { span = between min.span.start max.span.end; min = min; max = max })
@@ -358,3 +371,33 @@ module _ (e : Environment) (added : ℕ) (old : Cursor) where
           apart = not-true _ tests.1;
           threes = legacy_threes e.mode (not-true _ tests.0);
         }
+
+    three_or_none : {low high : ClassAtom} {h : Span} (given : Result ClassItem Fault) → is_sets e.mode ≡ false → are_three (is_unicode e.mode) (atom_of low) (atom_of high) ≡ true → PairStands new low high h
+        → MatchResult given (λ given. item_members given ≡ atom_member low ∷ hyphen_member h ∷ atom_member high ∷ []) (λ given. given ≡ fault.OutOfMemory) → GivesItem e added old new given
+    three_or_none (Ok given) no_sets three p m = three_gives given no_sets three p m
+    three_or_none (Err _) no_sets three p none = subst (λ given. GivesItem e added old new (Err given)) (sym none) (pair_out_of_memory p)
+
+    -- Whatever is answered of two atoms, by whether they are three items.
+    pub two_give : {to : Cursor} {low high : ClassAtom} {h : Span} {unicode : Bool} (given : Result ClassItem Fault) → is_sets e.mode ≡ false → unicode ≡ is_unicode e.mode → DashStands to low h → GivesAtom e added to new (Ok high)
+        → (are_three unicode (atom_of low) (atom_of high) ≡ true
+        → MatchResult given (λ given. item_members given ≡ atom_member low ∷ hyphen_member h ∷ atom_member high ∷ []) (λ given. given ≡ fault.OutOfMemory))
+        → (are_three unicode (atom_of low) (atom_of high) ≡ false → IsRangeItem low high given) → GivesItem e added old new given
+    two_give {low = low} {high = high} {h = h} given no_sets same d g three range =
+        let p = pair_given d g in
+        let test = ap (λ unicode. are_three unicode (atom_of low) (atom_of high)) same in
+        elim (cases_Bool (are_three (is_unicode e.mode) (atom_of low) (atom_of high))) [
+          | inl is ↦ three_or_none given no_sets is p (three (test ∙ is))
+          | inr is ↦ range_item_gives low high given no_sets is p (range (test ∙ is))
+        ]
+
+    -- A range that was found is added, or memory runs out.
+    pub range_added : (before after : List CharacterClassContents) {range : CharacterClassRange} (given : Result (Unit {0}) Fault)
+        → ((given : CharacterClassContents) → mirror_contents given ≡ tree.range range → GivesItem e added old new (Ok (given_item.One given)))
+        → MatchResult given (λ none. AddsRange before after range) (λ given. given ≡ fault.OutOfMemory) → OnOk given (AddsItem e added old new before after)
+    range_added before after (Ok tt) gives more = record { it = given_item.One more.given; gives = gives more.given more.is; adds = more.adds }
+    range_added before after (Err _) gives none = tt
+
+    pub range_not_added : (before after : List CharacterClassContents) (range : CharacterClassRange) (given : Result (Unit {0}) Fault) → KeepsUnits old new
+        → MatchResult given (λ none. AddsRange before after range) (λ given. given ≡ fault.OutOfMemory) → IfErr given (λ given. GivesItem e added old new (Err given))
+    range_not_added before after range (Ok tt) keeps more = tt
+    range_not_added before after range (Err _) keeps none = subst (λ given. GivesItem e added old new (Err given)) (sym none) (items.no_memory keeps)

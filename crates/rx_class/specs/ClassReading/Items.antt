@@ -1,8 +1,9 @@
 -- What the functions that read atoms and items of a class answer, at a place where one must stand, by the environment of the reader's whole text.
-use Rattle.std.specs.Prelude.{◌≡◌, ℕ, ◌+◌, ◌-◌, ◌<◌, ◌≤◌, ◌==◌, ◌&&◌, ◌≢◌, Bool, false, true, Option, Some, None, Result, Ok, Err, List, [], ◌∷◌, ◌++◌, length, map, if◌then◌else◌}
+use Rattle.std.specs.Prelude.{◌≡◌, ℕ, ◌+◌, ◌-◌, ◌<◌, ◌≤◌, ◌==◌, ◌&&◌, ◌≢◌, Bool, false, true, not, Option, Some, None, Result, Ok, Err, List, [], ◌∷◌, ◌++◌, drop, length, map, if◌then◌else◌}
 use Rattle.rx_base.specs.Ascii as ascii
 use Rattle.rx_base.specs.declared.diagnostic.Diagnostic.{Diagnostic}
-use Rattle.rx_base.specs.declared.diagnostic.Diagnostic.TheVariants.{CharacterClassRangeOutOfOrder, CharacterClassRangeDashNotSubtraction, CharacterClassRangeInvalidAtom}
+use Rattle.rx_base.specs.declared.diagnostic.Diagnostic.TheVariants.{CharacterClassRangeOutOfOrder, CharacterClassRangeDashNotSubtraction, CharacterClassRangeInvalidAtom, UnterminatedPattern}
+use Rattle.rx_base.specs.declared.diagnostic.kinds.Unterminated.TheVariants as what
 use Rattle.rx_base.specs.declared.diagnostic.kinds.RangeKind.TheVariants as range_kind
 use Rattle.rx_base.specs.declared.fault.Fault.{Fault}
 use Rattle.rx_base.specs.declared.fault.Fault.TheVariants as fault
@@ -21,7 +22,7 @@ use Rattle.rx_units.specs.Digits.{front_is}
 use Rattle.rx_model.specs.Refusals.ClassCauses.{IsClassCause, is_character}
 use Rattle.rx_model.specs.Refusals.ClassPlaces.{IsAtomPlace, IsItemPlace}
 use Rattle.rx_model.specs.Classes.ClassFronts.{atom_at, atom_read}
-use Rattle.rx_model.specs.Classes.ClassRows.{ClassRow, SpellsAtom, fresh}
+use Rattle.rx_model.specs.Classes.ClassRows.{ClassRow, SpellsAtom, fresh, is_dashed}
 use Rattle.rx_model.specs.Classes.ClassRuns.{atom_obeys}
 use Rattle.rx_model.specs.Classes.ClassTokens.{Atom, character, escape, property, more_members_events}
 use Rattle.rx_model.specs.Trees.Early.{AreEarlyMembers, any_strings}
@@ -33,8 +34,13 @@ use Rattle.rx_model.specs.Characters.UnitKinds.{unit_kind}
 use Rattle.rx_class.specs.declared.classes.atom.ClassAtom.{ClassAtom}
 use Rattle.rx_class.specs.declared.classes.atom.ClassAtom.TheVariants as atom
 use Rattle.rx_class.specs.declared.classes.atom.CommonAtom.{CommonAtom}
+use Rattle.rx_class.specs.declared.classes.atom.OneUnit.{OneUnit}
+use Rattle.rx_class.specs.declared.classes.atom.OneUnit.TheVariants as unit
 use Rattle.rx_class.specs.declared.classes.item.ClassItem.{ClassItem}
 use Rattle.rx_class.specs.declared.classes.item.ClassItem.TheVariants as item
+use Rattle.rx_class.specs.declared.classes.item.ItemFront.{ItemFront}
+use Rattle.rx_class.specs.declared.classes.item.ItemFront.TheVariants as front
+use Rattle.rx_class.specs.EscapeReading.Answers.{span_to}
 use Rattle.rx_class.specs.EscapeReading.Found.{class_escape_front}
 use Rattle.rx_class.specs.Keeping.{KeepsUnits}
 
@@ -64,6 +70,12 @@ abbrev pub alone_in_class : Bool → List ℕ → Option ℕ
 alone_in_class unicode [] = None
 alone_in_class unicode (c ∷ w) = if c == ascii.b then Some ascii.backspace else (if unicode && c == ascii.hyphen then Some ascii.hyphen else None)
 
+-- The first of these letters is a character after a backslash in classes alone, or a class escape, or neither.
+abbrev pub StandsOneUnit : Bool → List ℕ → Option OneUnit → Type 0
+StandsOneUnit unicode us (Some (unit.Character value)) = alone_in_class unicode us ≡ Some value
+StandsOneUnit unicode us (Some (unit.Class kind)) = class_escape_front us ≡ Some kind
+StandsOneUnit unicode us None = (alone_in_class unicode us ≡ None) × (class_escape_front us ≡ None)
+
 -- What stands after a backslash is neither a character in classes alone, nor a class escape, nor the letter of a property escape.
 pub record BeginsNone (e : Environment) (us : List ℕ) : Type 0 where
   pub no_alone : alone_in_class (is_unicode e.mode) us ≡ None
@@ -87,6 +99,24 @@ pub record StandsItem (us : List CodePoint) : Type 0 where
 pub record IsCommonAtom (e : Environment) (us : List CodePoint) (it : CommonAtom) : Type 0 where
   pub read : atom_at e us ≡ atom_read (character it.kind it.value) it.length
   pub code_point : it.value ≤ 0x10FFFF
+
+-- The units begin with a common character with no range after it.
+pub record StandsAlone (e : Environment) (us : List CodePoint) (it : CommonAtom) : Type 0 where
+  pub common : IsCommonAtom e us it
+  pub alone : is_dashed (values (drop it.length us)) ≡ false
+
+-- The units begin with two common characters with a `-` between, the first not above the second.
+pub record StandsInOrder (e : Environment) (us : List CodePoint) (low high : CommonAtom) : Type 0 where
+  pub low_is : IsCommonAtom e us low
+  pub dashed : is_dashed (values (drop low.length us)) ≡ true
+  pub high_is : IsCommonAtom e (drop 1 (drop low.length us)) high
+  pub ordered : low.value ≤ high.value
+
+-- The units begin with an item of a class, as is found.
+abbrev pub BeginsItem : Environment → List CodePoint → ItemFront → Type 0
+BeginsItem e us (front.Character it) = StandsAlone e us it
+BeginsItem e us (front.Range low high) = StandsInOrder e us low high
+BeginsItem e us front.Other = Unit {0}
 
 -- Where the environment is that of the text, this is a refusal of each class in which an atom may stand at the reader's place.
 abbrev pub IsAtomCause : Environment → ℕ → Cursor → Diagnostic → Type 0
@@ -149,6 +179,16 @@ item_contents (item.Three first hyphen last) = first ∷ hyphen ∷ last ∷ []
 abbrev pub item_members : ClassItem → List Member
 item_members it = map mirror_contents (item_contents it)
 
+-- two atoms with a `-` between are three items, with `u` or without
+abbrev pub are_three : Bool → Atom → Atom → Bool
+are_three unicode low high = not unicode && not (is_character low && is_character high)
+
+-- What is answered of two atoms that are not three items: a range of them as an item, or why they are none.
+pub data IsRangeItem (low high : ClassAtom) : Result ClassItem Fault → Type 0 where
+  range : {range : CharacterClassRange} {given : CharacterClassContents} → IsBetween low high (Ok range) → mirror_contents given ≡ tree.range range → IsRangeItem low high (Ok (item.One given))
+  refused : {diagnostic : Diagnostic} → IsBetween low high (Err diagnostic) → IsRangeItem low high (Err (fault.Diagnostic diagnostic))
+  no_memory : IsRangeItem low high (Err fault.OutOfMemory)
+
 -- the `-` of three items
 abbrev pub hyphen_member : Span → Member
 hyphen_member span = tree.character (record { span = span; kind = kind.Symbol; value = ascii.hyphen })
@@ -160,11 +200,22 @@ pub data GivesItem (e : Environment) (added : ℕ) (old new : Cursor) : Result C
   refused : {diagnostic : Diagnostic} → IsItemCause e added old diagnostic → KeepsUnits old new → GivesItem e added old new (Err (fault.Diagnostic diagnostic))
   no_memory : KeepsUnits old new → GivesItem e added old new (Err fault.OutOfMemory)
 
+-- An item of a class that begins at a byte is refused, or the text ends there.
+pub data RefusesItem (e : Environment) (added start : ℕ) (old new : Cursor) : Fault → Type 0 where
+  refused_item : {cause : Fault} → GivesItem e added old new (Err cause) → RefusesItem e added start old new cause
+  no_end : {span : Span} → rest old ≡ [] → new ≡ old → span ≡ span_to added start old → RefusesItem e added start old new (fault.Diagnostic (UnterminatedPattern span what.CharacterClass))
+
 -- An item is answered, and is added after the contents before it.
 pub record AddsItem (e : Environment) (added : ℕ) (old new : Cursor) (before after : List CharacterClassContents) : Type 0 where
   pub it : ClassItem
   pub gives : GivesItem e added old new (Ok it)
   pub adds : after ≡ before ++ item_contents it
+
+-- A range is added after the contents before it.
+pub record AddsRange (before after : List CharacterClassContents) (range : CharacterClassRange) : Type 0 where
+  pub given : CharacterClassContents
+  pub is : mirror_contents given ≡ tree.range range
+  pub adds : after ≡ before ++ given ∷ []
 
 -- the contents of a class
 abbrev pub contents : List CharacterClassContents → Members

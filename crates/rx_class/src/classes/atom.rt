@@ -1,4 +1,4 @@
-ghost use Rattle.std.specs.Prelude.{◌≡◌, ◌≤◌, All, IfOk, IfSome, Ok, false};
+ghost use Rattle.std.specs.Prelude.{◌≡◌, ◌≤◌, All, IfOk, IfSome, None, Ok, Some, false};
 ghost use Rattle.rx_ast.specs.ClassTree.{mirror_contents};
 ghost use Rattle.rx_units.specs.Cursor.{move_on, rest};
 ghost use Rattle.rx_units.specs.Pace.{IsPaced, TakesSteps};
@@ -7,12 +7,13 @@ ghost use Rattle.rx_units.specs.declared.code_point.CodePoint.{CodePoint as Unit
 ghost use Rattle.rx_model.specs.Characters.UnitKinds.{unit_kind};
 ghost use Rattle.rx_model.specs.Inputs.Environment.{Environment, is_sets, is_unicode};
 ghost use Rattle.rx_class.specs.EscapeReading.Answers.{IsAfterBackslash, environment_of};
-ghost use Rattle.rx_class.specs.ClassReading.Items.{BeginsNone, GivesAtom, IsCommonAtom, StandsItem, alone_in_class, atom_member, atom_span, back, kind_in_class};
+ghost use Rattle.rx_class.specs.ClassReading.Items.{BeginsNone, GivesAtom, IsCommonAtom, StandsItem, StandsOneUnit, alone_in_class, atom_member, atom_span, back, kind_in_class};
 
 use crate::reading::Reading;
 use crate::{class_escape_at, common_escape_at};
 use rx_ast::{
-    Character, CharacterClassContents, CharacterClassEscape, CharacterKind, UnicodePropertyEscape,
+    Character, CharacterClassContents, CharacterClassEscape, CharacterClassEscapeKind,
+    CharacterKind, UnicodePropertyEscape,
 };
 use rx_base::{Counter, Diagnostic, Fault, OutOfMemory, Span};
 use rx_units::{Ahead, EscapeKind, Unit, UnitSource};
@@ -35,6 +36,14 @@ pub struct CommonAtom {
     pub value: u32,
     /// How many units spell it.
     pub length: usize,
+}
+
+/// What one unit after a backslash is in a class, and not outside, or as a class escape.
+#[derive(Clone, Copy)]
+pub enum OneUnit {
+    /// A character, by its value.
+    Character(u32),
+    Class(CharacterClassEscapeKind),
 }
 
 impl ClassAtom {
@@ -117,18 +126,42 @@ impl<S: UnitSource, C: Counter> Reading<'_, '_, '_, '_, '_, S, C> {
         ensures steps { TakesSteps 6 (C.count self.old.steps.now) (C.count self.new.steps.now) self.old.reader.now self.new.reader.now result }
         ensures on { ReadsOn self.old self.new }
     {
-        let unicode = self.is_unicode();
-        if let Some(value) = alone_in_class(&self.units(), unicode) {
-            self.advance();
-            let span = self.span_from(start);
-            let kind = CharacterKind::SingleEscape;
-            return Ok(ClassAtom::Character(Character { span, kind, value }));
+        match one_unit_at(&self.units(), self.is_unicode()) {
+            Some(escape) => Ok(self.take_one_unit(start, escape)),
+            None => self.longer_atom(start),
         }
-        if let Some(kind) = class_escape_at(&self.units()) {
-            self.advance();
-            let span = self.span_from(start);
-            return Ok(ClassAtom::Escape(CharacterClassEscape { span, kind }));
+    }
+
+    /// Moves over the unit at the place, which is an atom with the backslash before it, and gives the atom.
+    fn take_one_unit(&mut self, start: u32, escape: OneUnit) -> ClassAtom
+        requires backslash { IsAfterBackslash self.old.reader.now start }
+        requires no_sets { is_sets (environment_of self.old.state.now).mode ≡ false }
+        requires stands { StandsOneUnit (is_unicode (environment_of self.old.state.now).mode) (values (rest self.old.reader.now)) (Some escape) }
+        ensures gives { GivesAtom (environment_of self.old.state.now) self.old.spans.now (back self.old.reader.now) self.new.reader.now (Ok result) }
+        ensures steps { IsPaced 6 (C.count self.old.steps.now) (C.count self.new.steps.now) self.old.reader.now self.new.reader.now }
+        ensures on { ReadsOn self.old self.new }
+    {
+        self.advance();
+        let span = self.span_from(start);
+        match escape {
+            OneUnit::Character(value) => ClassAtom::Character(Character {
+                span,
+                kind: CharacterKind::SingleEscape,
+                value,
+            }),
+            OneUnit::Class(kind) => ClassAtom::Escape(CharacterClassEscape { span, kind }),
         }
+    }
+
+    /// Reads the atom that a backslash begins where no single unit after it makes one in classes alone.
+    fn longer_atom(&mut self, start: u32) -> Result<ClassAtom, Fault>
+        requires backslash { IsAfterBackslash self.old.reader.now start }
+        requires none { StandsOneUnit (is_unicode (environment_of self.old.state.now).mode) (values (rest self.old.reader.now)) None }
+        requires no_sets { is_sets (environment_of self.old.state.now).mode ≡ false }
+        ensures gives { GivesAtom (environment_of self.old.state.now) self.old.spans.now (back self.old.reader.now) self.new.reader.now result }
+        ensures steps { TakesSteps 6 (C.count self.old.steps.now) (C.count self.new.steps.now) self.old.reader.now self.new.reader.now result }
+        ensures on { ReadsOn self.old self.new }
+    {
         if let Some(escape) = self.property_escape(start)? {
             return Ok(ClassAtom::Property(escape));
         }
@@ -207,6 +240,19 @@ pub fn unit_kind(escape_kind: EscapeKind) -> CharacterKind
         EscapeKind::None => CharacterKind::Symbol,
         EscapeKind::Unicode => CharacterKind::UnicodeEscape,
         EscapeKind::Hexadecimal => CharacterKind::HexadecimalEscape,
+    }
+}
+
+/// What the unit after a backslash is as a character in classes alone, or as a class escape.
+fn one_unit_at<U: Unit>(units: &Ahead<'_, U>, unicode: bool) -> Option<OneUnit>
+    ensures { StandsOneUnit unicode (values units.now) result }
+{
+    if let Some(value) = alone_in_class(units, unicode) {
+        return Some(OneUnit::Character(value));
+    }
+    match class_escape_at(units) {
+        Some(kind) => Some(OneUnit::Class(kind)),
+        None => None,
     }
 }
 

@@ -1,13 +1,16 @@
-ghost use Rattle.std.specs.Prelude.{◌≡◌, ◌∷◌, [], IfOk, false, if◌then◌else◌, true};
+ghost use Rattle.std.specs.Prelude.{◌≡◌, ◌+◌, ◌<◌, ◌^◌, ◌∷◌, [], IfErr, IfOk, MatchResult, OnOk, false, if◌then◌else◌, true};
 ghost use Rattle.rx_base.specs.Ascii as ascii;
 ghost use Rattle.rx_units.specs.Cursor.{begins, move_on, rest};
-ghost use Rattle.rx_units.specs.Pace.{IsPaced, TakesSteps};
+ghost use Rattle.rx_units.specs.Pace.{IsMove, IsPaced, TakesSteps};
 ghost use Rattle.rx_units.specs.Units.{values};
 ghost use Rattle.rx_model.specs.FirstPass.Marks.{starts};
 ghost use Rattle.rx_model.specs.Inputs.Environment.{is_sets};
-ghost use Rattle.rx_class.specs.EscapeReading.Answers.{environment_of};
+ghost use Rattle.rx_ast.specs.ClassTree as ClassTree;
+ghost use Rattle.rx_ast.specs.ClassTree.{mirror_class};
+ghost use Rattle.rx_ast.specs.declared.class.CharacterClassContentsKind.TheVariants.{Union};
+ghost use Rattle.rx_class.specs.EscapeReading.Answers.{environment_of, span_to};
 ghost use Rattle.rx_class.specs.ClassReading.Answers.{GivesClass, GivesOneClass, HoldsFirstPass};
-ghost use Rattle.rx_class.specs.ClassReading.Items.{IsOfText};
+ghost use Rattle.rx_class.specs.ClassReading.Items.{AddsItem, IsOfText, RefusesItem, contents as members_of};
 ghost use Rattle.rx_class.specs.Fitting.{AreFitting};
 ghost use Rattle.rx_class.specs.ReadingSteps.{IsReading};
 
@@ -89,10 +92,24 @@ impl<S: UnitSource, C: Counter> Reading<'_, '_, '_, '_, '_, S, C> {
         if !begins_with(&self.units(), '[') {
             return Ok(None);
         }
+        Ok(Some(self.class_here(contents)?))
+    }
+
+    /// Reads the class whose `[` stands next, and moves over it.
+    fn class_here(
+        &mut self,
+        contents: &mut List<CharacterClassContents>,
+    ) -> Result<CharacterClass, Fault>
+        requires bracket { starts ascii.left_bracket (values (rest self.old.reader.now)) ≡ true }
+        requires pass { HoldsFirstPass self.old.state.now self.old.reader.now.units }
+        ensures gives { GivesOneClass (environment_of self.old.state.now) self.old.spans.now self.old.reader.now self.new.reader.now result }
+        ensures steps { TakesSteps 6 (C.count self.old.steps.now) (C.count self.new.steps.now) self.old.reader.now self.new.reader.now result }
+        ensures on { ReadsOn self.old self.new }
+    {
         if is_sets(self.state.mode()) {
-            return Ok(Some(self.sets_mode_class()?));
+            return self.sets_mode_class();
         }
-        Ok(Some(self.items_class(contents)?))
+        self.items_class(contents)
     }
 
     /// Reads the class without `v` (CharacterClass and NonemptyClassRanges of ECMA-262, 22.2.1) whose `[` stands next, and moves
@@ -110,20 +127,55 @@ impl<S: UnitSource, C: Counter> Reading<'_, '_, '_, '_, '_, S, C> {
     {
         let start = self.offset();
         let negative = self.class_opener();
-        clear(contents);
-        contents.reserve(CONTENTS_RESERVED)?;
+        prepare(contents)?;
         while !begins_with(&self.units(), ']') {
-            if self.peek().is_none() {
-                let span = self.span_from(start);
-                let what = Unterminated::CharacterClass;
-                return Err(Fault::Diagnostic(Diagnostic::UnterminatedPattern { span, what }));
-            }
-            self.add_item(contents)?;
+            self.next_item(start, contents)?;
         }
+        self.closed_class(contents, start, negative)
+    }
+
+    /// Reads the item at the place, and adds it to the contents of the class, which begins at `start`, in bytes.
+    fn next_item(
+        &mut self,
+        start: u32,
+        contents: &mut List<CharacterClassContents>,
+    ) -> Result<(), Fault>
+        requires goes_on { starts ascii.right_bracket (values (rest self.old.reader.now)) ≡ false }
+        requires no_sets { is_sets (environment_of self.old.state.now).mode ≡ false }
+        requires start { start + self.old.spans.now < 2 ^ 32 }
+        ensures added { OnOk result (AddsItem (environment_of self.old.state.now) self.old.spans.now self.old.reader.now self.new.reader.now contents.old contents.new) }
+        ensures refused { IfErr result (RefusesItem (environment_of self.old.state.now) self.old.spans.now start self.old.reader.now self.new.reader.now) }
+        ensures steps { TakesSteps 6 (C.count self.old.steps.now) (C.count self.new.steps.now) self.old.reader.now self.new.reader.now result }
+        ensures on { ReadsOn self.old self.new }
+    {
+        if self.peek().is_none() {
+            let span = self.span_from(start);
+            let what = Unterminated::CharacterClass;
+            return Err(Fault::Diagnostic(Diagnostic::UnterminatedPattern { span, what }));
+        }
+        self.add_item(contents)
+    }
+
+    /// Moves over the `]` at the place, and gives the class, which begins at `start`, in bytes, with the contents that were gathered.
+    fn closed_class(
+        &mut self,
+        contents: &mut List<CharacterClassContents>,
+        start: u32,
+        negative: bool,
+    ) -> Result<CharacterClass, Fault>
+        requires start { start + self.old.spans.now < 2 ^ 32 }
+        ensures gives { MatchResult result
+            (λ it. (it.span ≡ span_to self.old.spans.now start self.new.reader.now) × (mirror_class it ≡ ClassTree.class it.span negative false Union (members_of contents.old)))
+            (λ fault. fault ≡ Fault.OutOfMemory) }
+        ensures reader { self.new.reader.now ≡ move_on 1 self.old.reader.now }
+        ensures steps { IsMove (C.count self.old.steps.now) (C.count self.new.steps.now) self.old.reader.now self.new.reader.now }
+        ensures on { ReadsOn self.old self.new }
+    {
         self.advance();
+        let span = self.span_from(start);
         let body = take_out(contents)?;
         Ok(CharacterClass {
-            span: self.span_from(start),
+            span,
             negative,
             strings: false,
             kind: CharacterClassContentsKind::Union,
@@ -142,6 +194,14 @@ impl<S: UnitSource, C: Counter> Reading<'_, '_, '_, '_, '_, S, C> {
         self.advance();
         self.eat('^')
     }
+}
+
+/// Empties a list, and takes memory for what most classes hold.
+fn prepare(contents: &mut List<CharacterClassContents>) -> Result<(), Fault>
+    ensures { MatchResult result (λ none. contents.new ≡ []) (λ fault. fault ≡ Fault.OutOfMemory) }
+{
+    clear(contents);
+    Ok(contents.reserve(CONTENTS_RESERVED)?)
 }
 
 /// Empties a list. Where it is empty already it keeps its memory.
