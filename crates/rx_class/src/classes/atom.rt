@@ -38,7 +38,7 @@ pub struct CommonAtom {
     pub length: usize,
 }
 
-/// What one unit after a backslash is in a class, and not outside, or as a class escape.
+/// What a single unit after a backslash is in a class: a character in classes alone, or a class escape.
 #[derive(Clone, Copy)]
 pub enum OneUnit {
     /// A character, by its value.
@@ -243,7 +243,7 @@ pub fn unit_kind(escape_kind: EscapeKind) -> CharacterKind
     }
 }
 
-/// What the unit after a backslash is as a character in classes alone, or as a class escape.
+/// What the unit after a backslash is where it is a character in classes alone, or a class escape.
 fn one_unit_at<U: Unit>(units: &Ahead<'_, U>, unicode: bool) -> Option<OneUnit>
     ensures { StandsOneUnit unicode (values units.now) result }
 {

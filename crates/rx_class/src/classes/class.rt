@@ -135,6 +135,7 @@ impl<S: UnitSource, C: Counter> Reading<'_, '_, '_, '_, '_, S, C> {
     }
 
     /// Reads the item at the place, and adds it to the contents of the class, which begins at `start`, in bytes.
+    #[inline(always)]
     fn next_item(
         &mut self,
         start: u32,

@@ -45,7 +45,7 @@ impl<S: UnitSource, C: Counter> Reading<'_, '_, '_, '_, '_, S, C> {
         begins_with(&self.units(), ']') && builder.is_outermost() && builder.inner.held.is_whole()
     }
 
-    /// Reads the class's own `]`, which is at the place, and gives the class.
+    /// Reads the class's own `]`, which is at the place, and gives the class. It is refused where it is negative and may contain strings.
     fn finish_sets(&mut self, builder: ClassBuilder) -> Result<CharacterClass, Fault>
         requires ends { EndsSets self.old.reader.now builder }
         requires sets { IsOfSets (environment_of self.old.state.now) self.old.reader.now }
@@ -60,7 +60,7 @@ impl<S: UnitSource, C: Counter> Reading<'_, '_, '_, '_, '_, S, C> {
         Ok(builder.finish(self.here().start))
     }
 
-    /// Reads what is at the place in the innermost open bracket, but for the class's own `]`: first as what is common.
+    /// Reads what is at the place in the innermost open bracket, but for the class's own `]`: what is common there is looked for first.
     #[inline(always)]
     fn take_turn(&mut self, builder: &mut ClassBuilder) -> Result<(), Fault>
         requires sets { IsOfSets (environment_of self.old.state.now) self.old.reader.now }
