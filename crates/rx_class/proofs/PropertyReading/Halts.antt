@@ -1,7 +1,7 @@
 -- What is found after `\p{` and `\P{` is what stands there, in a mode that has properties.
 use Rattle.std.proofs.Common.{◌≡◌, ◌≢◌, ℕ, ◌+◌, ◌⊎◌, inl, inr, Bool, true, false, ◌&&◌, List, [], ◌∷◌, ◌++◌, Option, Some, length, refl, sym, ap, ◌∙◌, subst, arith, length-append}
 use Rattle.rx_class.proofs.Common.{and-false, CodePoint, values, Mode, starts, is_sets, is_unicode, HasPair, HasRun, begins_property, sets_is, not_sets, unicode_alone, starts_there, IsLone}
-use Rattle.rx_class.proofs.Common.{IsPropertyAfter, IsPropertyHalt, values_length}
+use Rattle.rx_class.proofs.Common.{IsPropertyAfter, IsPropertyHalt}
 use Rattle.std.proofs.lemmas.List.{append_assoc}
 use Rattle.rx_tables.specs.Properties.{IsValidUnicodeProperty}
 use Rattle.rx_ast.specs.Texts.{property_opener}
@@ -47,24 +47,21 @@ module _ (mode : Mode) (unicode : is_unicode mode ≡ true) (negative : Bool) wh
         obeys = obeys;
       }
 
-  module _ (w : List ℕ) (name value following : List CodePoint) (p : HasPair w (values name) (values value) (values following)) where
-    pub pair_unclosed : IsValidUnicodeProperty (values name) (values value) → starts 125 (values following) ≡ false
-        → IsPropertyHalt mode (property_letter negative ∷ 123 ∷ w) (halt.Unterminated (3 + length name + length value))
+  module _ (w name value following : List ℕ) (p : HasPair w name value following) (n m : ℕ) (names : n ≡ length name) (counts : m ≡ length value) where
+    pub pair_unclosed : IsValidUnicodeProperty name value → starts 125 following ≡ false → IsPropertyHalt mode (property_letter negative ∷ 123 ∷ w) (halt.Unterminated (3 + n + m))
     pair_unclosed valid unclosed us rest first added place whole =
-        let e : place + 1 + (3 + length name + length value) ≡ place + 4 + length (values name) + length (values value) = omega (arith, values_length name, values_length value) in
-        rw e (unclosed_pair w (values name) (values value) (values following) (begins rest w whole) p valid unclosed)
+        let e : place + 1 + (3 + n + m) ≡ place + 4 + length name + length value = omega (arith, names, counts) in
+        rw e (unclosed_pair w name value following (begins rest w whole) p valid unclosed)
 
-    pub pair_unknown : (IsValidUnicodeProperty (values name) (values value) → ⊥) → IsPropertyHalt mode (property_letter negative ∷ 123 ∷ w) (halt.Name (3 + length name) (length value))
+    pub pair_unknown : (IsValidUnicodeProperty name value → ⊥) → IsPropertyHalt mode (property_letter negative ∷ 123 ∷ w) (halt.Name (3 + n) m)
     pair_unknown unknown us rest first added place whole =
-        let e : place + 1 + (3 + length name) ≡ place + 4 + length (values name) = omega (arith, values_length name) in
-        rw (e, sym (values_length value)) (unknown_pair w (values name) (values value) (values following) (begins rest w whole) p unknown)
+        let e : place + 1 + (3 + n) ≡ place + 4 + length name = omega (arith, names) in
+        rw (e, counts) (unknown_pair w name value following (begins rest w whole) p unknown)
 
-    pub pair_spelled : IsValidUnicodeProperty (values name) (values value) → starts 125 (values following) ≡ true
-        → IsPropertyAfter mode (property_letter negative ∷ 123 ∷ w) negative false (values name) (Some (values value)) (4 + length name + length value)
+    pub pair_spelled : IsValidUnicodeProperty name value → starts 125 following ≡ true → IsPropertyAfter mode (property_letter negative ∷ 123 ∷ w) negative false name (Some value) (4 + n + m)
     pair_spelled valid closed =
-        let whole = p.whole ∙ ap (λ v. values name ++ (61 ∷ v)) p.run.whole ∙ sym (append_assoc (values name) (61 ∷ values value) (values following)) in
-        spelled_before false (values name) (Some (values value)) (values name ++ (61 ∷ values value)) w (values following) (4 + length name + length value) whole closed (pair valid)
-        (omega (arith, length-append (values name) (61 ∷ values value), values_length name, values_length value)) (and-false negative)
+        let whole = p.whole ∙ ap (λ v. name ++ (61 ∷ v)) p.run.whole ∙ sym (append_assoc name (61 ∷ value) following) in
+        spelled_before false name (Some value) (name ++ (61 ∷ value)) w following (4 + n + m) whole closed (pair valid) (omega (arith, length-append name (61 ∷ value), names, counts)) (and-false negative)
 
   module _ (w word following : List ℕ) (r : HasRun w word following) (n : ℕ) (count : n ≡ length word) where
     cut_off_at : (place : ℕ) → place + 1 + (2 + n) ≡ place + 3 + length word

@@ -132,22 +132,48 @@ fn pair_found<U: Unit, C: Counter>(
 {
     let name_text = text_of(alloc, &pair.name, steps)?;
     let value_text = text_of(alloc, &pair.value, steps)?;
-    if !is_valid_unicode_property(name_text.as_str(), value_text.as_str()) {
-        return Ok(PropertyFound::Halt(PropertyHalt::Name {
-            start: 3 + pair.name.len(),
-            length: pair.value.len(),
-        }));
+    Ok(texts_found(
+        negative,
+        name_text,
+        value_text,
+        pair.name.len(),
+        pair.value.len(),
+        is_closed(&pair.following),
+    ))
+}
+
+/// The same by a name and a value, of so many characters each, and whether `}` follows.
+fn texts_found(
+    negative: bool,
+    name: Text,
+    value: Text,
+    name_count: usize,
+    value_count: usize,
+    ends: bool,
+) -> PropertyFound
+    requires name { name_count ≡ length name }
+    requires value { value_count ≡ length value }
+    requires small { (name_count < 2 ^ 63) × (value_count < 2 ^ 63) }
+    ensures found { (mode : Mode) (w following : List ℕ) → is_unicode mode ≡ true → HasPair w name value following → ends ≡ starts ascii.right_brace following
+        → IsFoundIn mode (property_letter negative ∷ ascii.left_brace ∷ w) result }
+    ensures closed { (following : List ℕ) → ends ≡ starts ascii.right_brace following → IsClosedIn (4 + name_count + value_count) following result }
+{
+    if !is_valid_unicode_property(name.as_str(), value.as_str()) {
+        return PropertyFound::Halt(PropertyHalt::Name {
+            start: 3 + name_count,
+            length: value_count,
+        });
     }
-    if !is_closed(&pair.following) {
-        return Ok(unterminated(3 + pair.name.len() + pair.value.len()));
+    if !ends {
+        return unterminated(3 + name_count + value_count);
     }
-    Ok(PropertyFound::Property {
+    PropertyFound::Property {
         negative,
         strings: false,
-        name: name_text,
-        value: Some(value_text),
-        length: 4 + pair.name.len() + pair.value.len(),
-    })
+        name,
+        value: Some(value),
+        length: 4 + name_count + value_count,
+    }
 }
 
 /// The same by a run of a value's characters.
