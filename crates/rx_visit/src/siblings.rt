@@ -103,41 +103,30 @@ impl<'a> Siblings<'a> {
         ensures { MatchOption result (in_order self.entry ≡ []) (λ cut. in_order self.entry ≡ mirror_kind cut.0 ∷ in_order cut.1) }
     {
         match self {
-            Siblings::Nothing => None,
             Siblings::Node(node) => Some((node, Siblings::Nothing)),
-            Siblings::Alternatives(alternatives) => {
-                let (first, rest) = alternatives.split_first()?;
-                Some((
-                    RegExpAstKind::Alternative(first),
-                    Siblings::Alternatives(rest),
-                ))
-            }
-            Siblings::Terms(terms) => {
-                let (first, rest) = terms.split_first()?;
+            Siblings::Alternatives([first, rest @ ..]) => Some((
+                RegExpAstKind::Alternative(first),
+                Siblings::Alternatives(rest),
+            )),
+            Siblings::Terms([first, rest @ ..]) => {
                 Some((RegExpAstKind::Term(first), Siblings::Terms(rest)))
             }
-            Siblings::Contents(contents) => {
-                let (first, rest) = contents.split_first()?;
-                Some((
-                    RegExpAstKind::CharacterClassContents(first),
-                    Siblings::Contents(rest),
-                ))
-            }
+            Siblings::Contents([first, rest @ ..]) => Some((
+                RegExpAstKind::CharacterClassContents(first),
+                Siblings::Contents(rest),
+            )),
             Siblings::Ends(range) => {
                 let max = RegExpAstKind::Character(&range.max);
                 Some((RegExpAstKind::Character(&range.min), Siblings::Node(max)))
             }
-            Siblings::Strings(strings) => {
-                let (first, rest) = strings.split_first()?;
-                Some((
-                    RegExpAstKind::CharacterClassString(first),
-                    Siblings::Strings(rest),
-                ))
-            }
-            Siblings::Characters(characters) => {
-                let (first, rest) = characters.split_first()?;
+            Siblings::Strings([first, rest @ ..]) => Some((
+                RegExpAstKind::CharacterClassString(first),
+                Siblings::Strings(rest),
+            )),
+            Siblings::Characters([first, rest @ ..]) => {
                 Some((RegExpAstKind::Character(first), Siblings::Characters(rest)))
             }
+            _ => None,
         }
     }
 }
