@@ -1,13 +1,17 @@
 -- Terms and alternatives as they are written one after the other.
-use Rattle.std.proofs.Common.{◌≡◌, refl, ap, ℕ, suc, ◌+◌, ◌<◌, Bool, false, List, [], ◌∷◌, ◌++◌, length, drop, get_or, add-one, codes, map, Option}
+use Rattle.std.proofs.Common.{◌≡◌, refl, ap, ◌∙◌, ℕ, suc, ◌+◌, ◌<◌, Bool, false, List, [], ◌∷◌, ◌++◌, length, drop, get_or, add-one, codes, map, Option}
 use Rattle.std.specs.Prelude.{if◌then◌else◌, is_some}
 use Rattle.std.proofs.Math.Seq.{drop-cons}
 use Rattle.rx_ast.specs.declared.term.Alternative.{Alternative}
 use Rattle.rx_ast.specs.declared.term.Term.{Term}
 use Rattle.rx_ast.specs.Shown.{alternatives_shown, barred_shown, node_pair, node_shown, nodes_shown, pair_or}
 use Rattle.rx_ast.specs.Size.{term_size, terms_size}
-use Rattle.rx_ast.specs.Tree.{Alternatives, no_alternative, alternative, alternatives, nodes, mirror_term, mirror_alternative}
+use Rattle.rx_ast.specs.Tree.{Alternatives, Node, no_alternative, alternative, alternatives, nodes, mirror_term, mirror_alternative}
 use Rattle.rx_ast.proofs.Equations.{alternative_is}
+
+-- a term of a variant whose mirror is known
+pub term_shown : {t variant : Term} {n : Node} → t ≡ variant → mirror_term variant ≡ n → node_shown (mirror_term t) ≡ node_shown n
+term_shown is mirrored = ap (λ x. node_shown (mirror_term x)) is ∙ ap (λ m. node_shown m) mirrored
 
 pub terms_next : (joined : Bool) (pair : Option ℕ) (t : Term) (ts : List Term) → pair ≡ node_pair (mirror_term t) (nodes (map mirror_term ts)) →
     nodes_shown joined (nodes (map mirror_term (t ∷ ts))) ≡ (if joined then [] else pair_or pair (node_shown (mirror_term t))) ++ nodes_shown (is_some pair) (nodes (map mirror_term ts))

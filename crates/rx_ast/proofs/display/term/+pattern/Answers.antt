@@ -1,15 +1,19 @@
-use Rattle.std.proofs.Common.{refl, ap, ◌∙◌, ◌++◌, arith, rules, codes, map}
+use Rattle.std.proofs.Common.{refl, ap, sym, ◌∙◌, ◌++◌, arith, rules, codes, map}
 use Rattle.std.specs.Str.{chars}
 use Rattle.std.proofs.lemmas.Str.{IsUtf8-nil}
 use Rattle.rx_ast.specs.Shown.{alternatives_shown, node_shown, nodes_shown}
-use Rattle.rx_ast.specs.Size.{terms_size}
-use Rattle.rx_ast.specs.Tree.{alternatives, mirror_alternative, mirror_term, nodes}
+use Rattle.rx_ast.specs.ClassTree.{mirror_class}
+use Rattle.rx_ast.specs.Size.{disjunction_size, term_size, terms_size}
+use Rattle.rx_ast.specs.Tree as tree
+use Rattle.rx_ast.specs.Tree.{alternatives, leaf, mirror_alternative, mirror_capturing, mirror_ignore, mirror_look, mirror_quantifier, mirror_term, nodes}
 use Rattle.rx_ast.specs.Texts.{look_text}
+use Rattle.rx_ast.specs.declared.term.CapturingGroup.{out-CapturingGroup}
+use Rattle.rx_ast.specs.declared.term.IgnoreGroup.{out-IgnoreGroup}
 use Rattle.rx_ast.specs.declared.term.LookAroundAssertion.{out-LookAroundAssertion}
-use Rattle.rx_ast.proofs.Equations.{capturing_is, disjunction_is, ignore_is, look_is, quantifier_is}
-use Rattle.rx_ast.proofs.Sizes.{alternative_within}
+use Rattle.rx_ast.proofs.Equations.{boundary_is, capturing_is, capturing_term_is, character_is, class_is, disjunction_is, dot_is, escape_is, ignore_is, ignore_term_is, indexed_is, look_is, look_term_is, named_is, property_is, quantifier_is, quantifier_term_is}
+use Rattle.rx_ast.proofs.Sizes.{alternative_within, size_of_capturing, size_of_ignore, size_of_look, size_of_quantifier}
 use Rattle.rx_ast.proofs.FormatterWrites.{left_all, left_same, left_then, same_shown, shown_then}
-use Rattle.rx_ast.proofs.TermShown.{alternatives_next, after_nothing, terms_cons, terms_next}
+use Rattle.rx_ast.proofs.TermShown.{alternatives_next, after_nothing, term_shown, terms_cons, terms_next}
 use Rattle.rx_ast.proofs.display.term.+pattern.Goals as goal
 
 pub write_alternatives-loop-alternative-init : goal.write_alternatives-loop-alternative-init
@@ -66,3 +70,55 @@ write_terms-loop-term-preserved g t c =
       written = rw c.is_some-joined.ensures (left_then _ _ loop.invariant.written cut c.in_ok-write_unless_joined.ensures);
       smaller = omega (arith, loop.invariant.smaller, ap terms_size c.in-Some.ensures.cases.0 ∙ terms_cons first others);
     }
+
+pub write_term-returns-in-BoundaryAssertion : goal.write_term-returns-in-BoundaryAssertion
+write_term-returns-in-BoundaryAssertion g t c = same_shown _ (term_shown c.in-BoundaryAssertion.is (boundary_is c.in-BoundaryAssertion.it)) c.fmt.ensures.writes
+
+pub write_term-returns-in-Character : goal.write_term-returns-in-Character
+write_term-returns-in-Character g t c = same_shown _ (term_shown c.in-Character.is (character_is c.in-Character.it)) c.fmt-in-Character.ensures.writes
+
+pub write_term-returns-in-Dot : goal.write_term-returns-in-Dot
+write_term-returns-in-Dot g t c = same_shown _ (term_shown c.in-Dot.is (dot_is c.in-Dot.it)) c.fmt-in-Dot.ensures.writes
+
+pub write_term-returns-in-CharacterClassEscape : goal.write_term-returns-in-CharacterClassEscape
+write_term-returns-in-CharacterClassEscape g t c = same_shown _ (term_shown c.in-CharacterClassEscape.is (escape_is c.in-CharacterClassEscape.it)) c.fmt-in-CharacterClassEscape.ensures.writes
+
+pub write_term-returns-in-IndexedReference : goal.write_term-returns-in-IndexedReference
+write_term-returns-in-IndexedReference g t c = same_shown _ (term_shown c.in-IndexedReference.is (indexed_is c.in-IndexedReference.it)) c.fmt-in-IndexedReference.ensures.writes
+
+pub write_term-returns-in-UnicodePropertyEscape : goal.write_term-returns-in-UnicodePropertyEscape
+write_term-returns-in-UnicodePropertyEscape g t c = same_shown _ (term_shown c.in-UnicodePropertyEscape.is (property_is c.in-UnicodePropertyEscape.it ∙ ap (λ x. leaf (tree.property x)) (sym c.deref-in-UnicodePropertyEscape.ensures))) c.fmt-in-UnicodePropertyEscape.ensures.writes
+
+pub write_term-returns-in-NamedReference : goal.write_term-returns-in-NamedReference
+write_term-returns-in-NamedReference g t c = same_shown _ (term_shown c.in-NamedReference.is (named_is c.in-NamedReference.it ∙ ap (λ x. leaf (tree.named x)) (sym c.deref-in-NamedReference.ensures))) c.fmt-in-NamedReference.ensures.writes
+
+pub write_term-returns-in-CharacterClass : goal.write_term-returns-in-CharacterClass
+write_term-returns-in-CharacterClass g t c = same_shown _ (term_shown c.in-CharacterClass.is (class_is c.in-CharacterClass.it ∙ ap (λ x. leaf (tree.class (mirror_class x))) (sym c.deref-in-CharacterClass.ensures))) c.write_class.ensures
+
+pub write_term-returns-in-LookAroundAssertion : goal.write_term-returns-in-LookAroundAssertion
+write_term-returns-in-LookAroundAssertion g t c = same_shown _ (term_shown c.in-LookAroundAssertion.is (look_term_is c.in-LookAroundAssertion.it ∙ ap (mirror_look) (sym c.deref.ensures))) c.write_look_around.ensures
+
+pub write_term-returns-in-Quantifier : goal.write_term-returns-in-Quantifier
+write_term-returns-in-Quantifier g t c = same_shown _ (term_shown c.in-Quantifier.is (quantifier_term_is c.in-Quantifier.it ∙ ap (mirror_quantifier) (sym c.deref-in-Quantifier.ensures))) c.write_quantified.ensures
+
+pub write_term-returns-in-CapturingGroup : goal.write_term-returns-in-CapturingGroup
+write_term-returns-in-CapturingGroup g t c = same_shown _ (term_shown c.in-CapturingGroup.is (capturing_term_is c.in-CapturingGroup.it ∙ ap (mirror_capturing) (sym c.deref-in-CapturingGroup.ensures))) c.write_capturing_group.ensures
+
+pub write_term-returns-in-IgnoreGroup : goal.write_term-returns-in-IgnoreGroup
+write_term-returns-in-IgnoreGroup g t c = same_shown _ (term_shown c.in-IgnoreGroup.is (ignore_term_is c.in-IgnoreGroup.it ∙ ap (mirror_ignore) (sym c.deref-in-IgnoreGroup.ensures))) c.write_ignore_group.ensures
+
+pub write_term-write_look_around-requires : goal.write_term-write_look_around-requires
+write_term-write_look_around-requires g t c = λ κs within.
+    (omega (arith, ap term_size c.in-LookAroundAssertion.is ∙ size_of_look c.in-LookAroundAssertion.it, ap (λ k. disjunction_size (out-LookAroundAssertion k).body) c.deref.ensures), search rules)
+
+pub write_term-write_quantified-requires : goal.write_term-write_quantified-requires
+write_term-write_quantified-requires g t c = λ κs within.
+    (omega (arith, ap term_size c.in-Quantifier.is ∙ size_of_quantifier c.in-Quantifier.it, ap (λ k. term_size k.body) c.deref-in-Quantifier.ensures), search rules)
+
+pub write_term-write_capturing_group-requires : goal.write_term-write_capturing_group-requires
+write_term-write_capturing_group-requires g t c = λ κs within.
+    (omega (arith, ap term_size c.in-CapturingGroup.is ∙ size_of_capturing c.in-CapturingGroup.it, ap (λ k. disjunction_size (out-CapturingGroup k).body) c.deref-in-CapturingGroup.ensures), search rules)
+
+pub write_term-write_ignore_group-requires : goal.write_term-write_ignore_group-requires
+write_term-write_ignore_group-requires g t c = λ κs within.
+    (omega (arith, ap term_size c.in-IgnoreGroup.is ∙ size_of_ignore c.in-IgnoreGroup.it, ap (λ k. disjunction_size (out-IgnoreGroup k).body) c.deref-in-IgnoreGroup.ensures), search rules)
