@@ -5,9 +5,9 @@ use Rattle.rx_ast.specs.declared.class.CharacterClassContents.{CharacterClassCon
 use Rattle.rx_ast.specs.declared.term.Alternative.{Alternative}
 use Rattle.rx_ast.specs.declared.term.Disjunction.{Disjunction, out-Disjunction}
 use Rattle.rx_ast.specs.declared.term.Term.{Term}
-use Rattle.rx_ast.specs.ClassTree.{members, mirror_contents, mirror_class}
-use Rattle.rx_ast.specs.Tree.{nodes, alternatives, mirror_term, mirror_alternative, mirror_disjunction}
-use Rattle.rx_ast.specs.Kinds.{disjunction, alternative, class, each_term, each_alternative, each_contents, children}
+use Rattle.rx_ast.specs.ClassTree.{Member, members, mirror_contents, mirror_class}
+use Rattle.rx_ast.specs.Tree.{Node, nodes, alternatives, mirror_term, mirror_alternative, mirror_disjunction}
+use Rattle.rx_ast.specs.Kinds.{disjunction, alternative, class, each_term, each_alternative, each_contents, in_contents, in_term, children}
 use Rattle.rx_visit.specs.Siblings.{alternative_kind, contents_kind, term_kind}
 use Rattle.rx_ast.proofs.ClassEquations.{class_is}
 use Rattle.rx_ast.proofs.Equations.{alternative_is, disjunction_is}
@@ -32,3 +32,10 @@ in_alternative a ts is = ap (λ m. children (alternative m)) (alternative_is a) 
 
 pub in_disjunction : (d : Disjunction) (as' : List Alternative) → as' ≡ (out-Disjunction d).body → children (disjunction (mirror_disjunction d)) ≡ map alternative_kind as'
 in_disjunction d as' is = ap (λ m. children (disjunction m)) (disjunction_is d) ∙ rw is (all_alternatives (out-Disjunction d).body)
+
+-- the node that a term of a variant is, or contents of a variant are, whose mirror is known
+pub kind_of_term : {t variant : Term} {n : Node} → t ≡ variant → mirror_term variant ≡ n → in_term (mirror_term t) ≡ in_term n
+kind_of_term is mirrored = ap (λ x. in_term (mirror_term x)) is ∙ ap in_term mirrored
+
+pub kind_of_contents : {c variant : CharacterClassContents} {m : Member} → c ≡ variant → mirror_contents variant ≡ m → in_contents (mirror_contents c) ≡ in_contents m
+kind_of_contents is mirrored = ap (λ x. in_contents (mirror_contents x)) is ∙ ap in_contents mirrored

@@ -13,15 +13,19 @@ use Rattle.rx_visit.specs.declared.siblings.Siblings.{Siblings}
 pub composes : Composes lists
 composes = record { joined = λ u v w first second one two. two ∙ ap (λ ks. ks ++ second) one ∙ append_assoc (map mirror_kind u) first second }
 
+-- a node and those after it
+pub length_from : (k : Kind) (following : Siblings) → length (flat_map order (k ∷ in_order following)) ≡ 1 + (length (flat_map order (children k)) + length (all_in_order following))
+length_from k following =
+    let parted = ap (λ ks. length (ks ++ all_in_order following)) (order_is k) in
+    let both = length-append (flat_map order (children k)) (all_in_order following) in
+    omega arith
+
 module _ (s following : Siblings) (k : Kind) (first : in_order s ≡ k ∷ in_order following) where
   cut : all_in_order s ≡ k ∷ (flat_map order (children k) ++ all_in_order following)
   cut = ap (flat_map order) first ∙ ap (λ ks. ks ++ all_in_order following) (order_is k)
 
   pub first_length : length (all_in_order s) ≡ 1 + (length (flat_map order (children k)) + length (all_in_order following))
-  first_length =
-      let parted = ap length cut in
-      let both = length-append (flat_map order (children k)) (all_in_order following) in
-      omega arith
+  first_length = ap (λ ks. length (flat_map order ks)) first ∙ length_from k following
 
   pub first_in_order : (within : Siblings) → in_order within ≡ children k → all_in_order s ≡ k ∷ (all_in_order within ++ all_in_order following)
   first_in_order within in_it = cut ∙ ap (λ ks. k ∷ (flat_map order ks ++ all_in_order following)) (sym in_it)

@@ -46,3 +46,7 @@ turned {V} {X} {entered} {left} {v} {m} {w} f xs i x within is so_far visit =
 pub looped : {V X : Type 0} {entered : V → Kind → Bool → V → Type 0} {left : V → Kind → V → Type 0} {v w : V} (f : X → Kind) (xs : List X) (i : ℕ)
     → length xs ≤ i → VisitedAll entered left v (map f (take i xs)) w → VisitedAll entered left v (map f xs) w
 looped {V} {X} {entered} {left} {v} {w} f xs i past visits = subst (λ ys. VisitedAll entered left v (map f ys) w) (take_all i xs past) visits
+
+-- the same visit, by another form of the node
+pub visited_as : {V : Type 0} {entered : V → Kind → Bool → V → Type 0} {left : V → Kind → V → Type 0} {v w : V} {k other : Kind} → other ≡ k → Visited entered left v k w → Visited entered left v other w
+visited_as {V} {entered} {left} {v} {w} same visit = subst (λ it. Visited entered left v it w) (sym same) visit

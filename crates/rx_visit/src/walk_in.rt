@@ -1,6 +1,10 @@
-ghost use Rattle.std.specs.Prelude.{OnOk};
+ghost use Rattle.std.specs.Prelude.{◌<◌, ◌∷◌, OnOk, sum_by};
 ghost use Rattle.rx_ast.specs.Kinds.{pattern as pattern_kind};
+ghost use Rattle.rx_ast.specs.MirrorKinds.{mirror_kind};
 ghost use Rattle.rx_ast.specs.Tree.{mirror};
+ghost use Rattle.rx_tasks.specs.Tasks.{tasks_of};
+ghost use Rattle.rx_visit.specs.Siblings.{in_order};
+ghost use Rattle.rx_visit.specs.Steps.{Begins, nodes_weight, step_weight};
 ghost use Rattle.rx_visit.specs.Visits.{Visited};
 
 use crate::siblings::{Siblings, children_of};
@@ -33,19 +37,37 @@ impl<'a, V: Visit> Work<V> for Step<'a> {
                 visitor.leave_node(node);
                 Ok(Next::Nothing)
             }
-            Step::Visit(siblings) => {
-                let Some((node, following)) = siblings.split_first() else {
-                    return Ok(Next::Nothing);
-                };
-                if visitor.enter_node(node) {
-                    let within = Step::Visit(children_of(node));
-                    return Ok(Next::Three(within, Step::Leave(node), Step::Visit(following)));
-                }
-                visitor.leave_node(node);
-                Ok(Next::One(Step::Visit(following)))
-            }
+            Step::Visit(siblings) => Ok(visit_first(visitor, siblings)),
         }
     }
+}
+
+/// Visits the first of some nodes, and answers what is left to be done of them all.
+fn visit_first<'a, V: Visit>(visitor: &mut V, siblings: Siblings<'a>) -> Next<Step<'a>>
+    ensures begins { Begins V.entered V.left (in_order siblings.entry) visitor.old visitor.new (tasks_of result) }
+    ensures lighter { sum_by step_weight (tasks_of result) < nodes_weight (in_order siblings.entry) }
+{
+    let Some((node, following)) = siblings.split_first() else {
+        return Next::Nothing;
+    };
+    visit_before(visitor, node, following)
+}
+
+/// Visits a node that stands before others, and answers what is left to be done of it and of those.
+fn visit_before<'a, V: Visit>(
+    visitor: &mut V,
+    node: RegExpAstKind<'a>,
+    following: Siblings<'a>,
+) -> Next<Step<'a>>
+    ensures begins { Begins V.entered V.left (mirror_kind node.entry ∷ in_order following.entry) visitor.old visitor.new (tasks_of result) }
+    ensures lighter { sum_by step_weight (tasks_of result) < nodes_weight (mirror_kind node.entry ∷ in_order following.entry) }
+{
+    if visitor.enter_node(node) {
+        let within = Step::Visit(children_of(node));
+        return Next::Three(within, Step::Leave(node), Step::Visit(following));
+    }
+    visitor.leave_node(node);
+    Next::One(Step::Visit(following))
 }
 
 /// Visits a whole pattern, as `walk_pattern` does. What is still to be done waits on the heap: it takes memory, and no deeper stack
