@@ -1,16 +1,20 @@
 -- The contents of a class, and the characters and the strings in it, as they are written one after the other.
-use Rattle.std.proofs.Common.{◌≡◌, refl, ap, ℕ, ◌+◌, ◌<◌, Bool, false, List, [], ◌∷◌, ◌++◌, length, drop, get_or, add-one, codes, map, Option}
+use Rattle.std.proofs.Common.{◌≡◌, refl, ap, ◌∙◌, ℕ, ◌+◌, ◌<◌, Bool, false, List, [], ◌∷◌, ◌++◌, length, drop, get_or, add-one, codes, map, Option}
 use Rattle.std.specs.Prelude.{if◌then◌else◌, is_some}
 use Rattle.std.proofs.Math.Seq.{drop-cons}
 use Rattle.rx_ast.specs.declared.leaf.Character.{Character}
 use Rattle.rx_ast.specs.declared.class.CharacterClass.{CharacterClass}
 use Rattle.rx_ast.specs.declared.class.CharacterClassContents.{CharacterClassContents}
 use Rattle.rx_ast.specs.declared.class.ClassString.{ClassString}
-use Rattle.rx_ast.specs.ClassTree.{Members, no_member, member, members, mirror_contents, mirror_class}
+use Rattle.rx_ast.specs.ClassTree.{Member, Members, no_member, member, members, mirror_contents, mirror_class}
 use Rattle.rx_ast.specs.Shown.{barred_strings_shown, character_shown, characters_shown, class_shown, member_pair, member_shown, members_shown, more_members_shown, pair_or}
 use Rattle.rx_ast.specs.Size.{contents_size, all_contents_size}
 use Rattle.rx_ast.specs.Texts.{class_opener, operator_text}
 use Rattle.rx_ast.proofs.ClassEquations.{class_is}
+
+-- contents of a variant whose mirror is known
+pub contents_shown : {c variant : CharacterClassContents} {m : Member} → c ≡ variant → mirror_contents variant ≡ m → member_shown (mirror_contents c) ≡ member_shown m
+contents_shown is mirrored = ap (λ x. member_shown (mirror_contents x)) is ∙ ap (λ m. member_shown m) mirrored
 
 pub characters_next : (cs : List Character) (i : ℕ) (c : Character) → i < length cs → characters_shown (drop i cs) ≡ character_shown (get_or cs i c) ++ characters_shown (drop (i + 1) cs)
 characters_next cs i c h = rw (add-one, drop-cons cs i c) refl

@@ -2,11 +2,13 @@ use Rattle.std.proofs.Common.{ap, sym, ◌∙◌, ◌∷◌, ◌++◌, [], arith
 use Rattle.std.specs.Char.{encode_utf8}
 use Rattle.std.specs.Str.{chars}
 use Rattle.std.proofs.lemmas.Str.{IsUtf8-nil}
-use Rattle.rx_ast.specs.ClassTree.{members, mirror_contents}
+use Rattle.rx_ast.specs.ClassTree.{members, mirror_class, mirror_contents, nested, property, range, strings}
 use Rattle.rx_ast.specs.Shown.{member_shown, members_shown, pair_or}
-use Rattle.rx_ast.specs.Size.{all_contents_size}
+use Rattle.rx_ast.specs.Size.{all_contents_size, contents_size}
 use Rattle.rx_ast.specs.Texts.{class_opener, operator_text}
-use Rattle.rx_ast.proofs.ClassShown.{after_nothing, class_shown_is, contents_after, contents_cons, contents_next}
+use Rattle.rx_ast.proofs.ClassEquations.{character_is, escape_is, nested_is, property_is, range_is, strings_is}
+use Rattle.rx_ast.proofs.ClassShown.{after_nothing, class_shown_is, contents_after, contents_shown, contents_cons, contents_next}
+use Rattle.rx_ast.proofs.ClassSizes.{size_of_nested}
 use Rattle.rx_ast.proofs.FormatterWrites.{left_all, left_same, left_then, other_bytes, same_shown, shown_then, unless_joined}
 use Rattle.rx_ast.proofs.display.class.+class.Goals as goal
 
@@ -58,3 +60,25 @@ write_unless_joined-returns-in-None g t c =
     let alone = member_shown (mirror_contents c.args.contents.now) in
     let text = unless_joined c.args.joined _ c.if-joined.false ∙ ap (λ p. before ++ pair_or p alone) c.in-None.is in
     same_shown _ text (shown_then _ before alone c.in_ok-write_text.ensures c.write_contents.ensures)
+
+pub write_contents-returns-in-NestedCharacterClass : goal.write_contents-returns-in-NestedCharacterClass
+write_contents-returns-in-NestedCharacterClass g t c = same_shown _ (contents_shown c.in-NestedCharacterClass.is (nested_is c.in-NestedCharacterClass.it ∙ ap (λ x. nested (mirror_class x)) (sym c.deref.ensures))) c.write_class.ensures
+
+pub write_contents-returns-in-CharacterClassRange : goal.write_contents-returns-in-CharacterClassRange
+write_contents-returns-in-CharacterClassRange g t c = same_shown _ (contents_shown c.in-CharacterClassRange.is (range_is c.in-CharacterClassRange.it ∙ ap range (sym c.deref-in-CharacterClassRange.ensures))) c.fmt.ensures.writes
+
+pub write_contents-returns-in-CharacterClassEscape : goal.write_contents-returns-in-CharacterClassEscape
+write_contents-returns-in-CharacterClassEscape g t c = same_shown _ (contents_shown c.in-CharacterClassEscape.is (escape_is c.in-CharacterClassEscape.it)) c.fmt-in-CharacterClassEscape.ensures.writes
+
+pub write_contents-returns-in-UnicodePropertyEscape : goal.write_contents-returns-in-UnicodePropertyEscape
+write_contents-returns-in-UnicodePropertyEscape g t c = same_shown _ (contents_shown c.in-UnicodePropertyEscape.is (property_is c.in-UnicodePropertyEscape.it ∙ ap property (sym c.deref-in-UnicodePropertyEscape.ensures))) c.fmt-in-UnicodePropertyEscape.ensures.writes
+
+pub write_contents-returns-in-Character : goal.write_contents-returns-in-Character
+write_contents-returns-in-Character g t c = same_shown _ (contents_shown c.in-Character.is (character_is c.in-Character.it)) c.fmt-in-Character.ensures.writes
+
+pub write_contents-returns-in-ClassStringDisjunction : goal.write_contents-returns-in-ClassStringDisjunction
+write_contents-returns-in-ClassStringDisjunction g t c = same_shown _ (contents_shown c.in-ClassStringDisjunction.is (strings_is c.in-ClassStringDisjunction.it ∙ ap strings (sym c.deref-in-ClassStringDisjunction.ensures))) c.fmt-in-ClassStringDisjunction.ensures.writes
+
+pub write_contents-write_class-requires : goal.write_contents-write_class-requires
+write_contents-write_class-requires g t c = λ κs within.
+    (omega (arith, ap contents_size c.in-NestedCharacterClass.is ∙ size_of_nested c.in-NestedCharacterClass.it, ap (λ k. all_contents_size k.body) c.deref.ensures), search rules)
