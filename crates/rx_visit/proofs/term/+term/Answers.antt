@@ -1,12 +1,11 @@
 use Rattle.std.proofs.Common.{refl, ap, sym, ◌∙◌, rules, arith}
-use Rattle.rx_ast.specs.ClassTree.{mirror_class}
-use Rattle.rx_ast.specs.Kinds.{class, named_reference, property_escape}
+use Rattle.rx_ast.specs.Kinds.{named_reference, property_escape}
 use Rattle.rx_ast.specs.MirrorKinds.{capturing_kind, ignore_kind, look_kind, quantifier_kind}
 use Rattle.rx_ast.specs.Size.{term_size, terms_size, all_alternatives_size, disjunction_size}
 use Rattle.rx_ast.specs.declared.term.CapturingGroup.{out-CapturingGroup}
 use Rattle.rx_ast.specs.declared.term.IgnoreGroup.{out-IgnoreGroup}
 use Rattle.rx_ast.specs.declared.term.LookAroundAssertion.{out-LookAroundAssertion}
-use Rattle.rx_ast.proofs.Equations.{boundary_is, character_is, class_is, dot_is, escape_is, indexed_is, named_is, property_is, tree_of_capturing, tree_of_ignore, tree_of_look, tree_of_quantifier}
+use Rattle.rx_ast.proofs.Equations.{boundary_is, character_is, dot_is, escape_is, indexed_is, named_is, property_is, tree_of_capturing, tree_of_ignore, tree_of_look, tree_of_quantifier}
 use Rattle.rx_ast.proofs.Sizes.{size_of_capturing, size_of_disjunction, size_of_ignore, size_of_look, size_of_quantifier, alternative_within, term_within}
 use Rattle.rx_visit.specs.Visits.{none}
 use Rattle.rx_visit.specs.Siblings.{term_kind, alternative_kind}
@@ -87,9 +86,6 @@ walk_in_term-returns-in-CharacterClassEscape g t c = visited_as (kind_of_term c.
 
 pub walk_in_term-returns-in-UnicodePropertyEscape : goal.walk_in_term-returns-in-UnicodePropertyEscape
 walk_in_term-returns-in-UnicodePropertyEscape g t c = visited_as (kind_of_term c.in-UnicodePropertyEscape.is (property_is c.in-UnicodePropertyEscape.it) ∙ ap property_escape (sym c.deref-in-UnicodePropertyEscape.ensures)) c.walk_unicode_property_escape.ensures
-
-pub walk_in_term-returns-in-CharacterClass : goal.walk_in_term-returns-in-CharacterClass
-walk_in_term-returns-in-CharacterClass g t c = visited_as (kind_of_term c.in-CharacterClass.is (class_is c.in-CharacterClass.it) ∙ ap (λ x. class (mirror_class x)) (sym c.deref-in-CharacterClass.ensures)) c.walk_character_class.ensures
 
 pub walk_in_term-returns-in-CapturingGroup : goal.walk_in_term-returns-in-CapturingGroup
 walk_in_term-returns-in-CapturingGroup g t c = visited_as (kind_of_term c.in-CapturingGroup.is (tree_of_capturing c.in-CapturingGroup.it) ∙ ap capturing_kind (sym c.deref-in-CapturingGroup.ensures)) c.walk_capturing_group.ensures
