@@ -17,7 +17,7 @@ use std::marker::Brand;
 use std::sync::ledger::{Blank, Ledger};
 
 /// What a unicode escape stands for (RegExpUnicodeEscapeSequence of ECMA-262, 22.2.1).
-#[derive(Clone, Copy)]
+#[derive(Clone, Copy, Debug)]
 pub enum UnicodeEscape {
     /// A code point, and how many units spell it, the `u` among them.
     Value { code_point: u32, length: usize },
