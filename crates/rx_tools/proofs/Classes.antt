@@ -7,12 +7,16 @@ use Rattle.rx_ast.specs.declared.leaf.Character.{Character}
 use Rattle.rx_ast.specs.declared.class.CharacterClass.{CharacterClass}
 use Rattle.rx_ast.specs.declared.class.CharacterClassContents.{CharacterClassContents}
 use Rattle.rx_ast.specs.declared.class.ClassString.{ClassString}
-use Rattle.rx_ast.specs.ClassTree.{Members, no_member, member, members, mirror_contents, mirror_class}
+use Rattle.rx_ast.specs.ClassTree.{Member, Members, no_member, member, members, mirror_contents, mirror_class}
 use Rattle.rx_ast.proofs.ClassEquations.{class_is}
 use Rattle.rx_model.specs.declared.mode.Mode.{Mode}
 use Rattle.rx_ast.specs.Texts.{class_opener, operator_text}
 use Rattle.rx_model.specs.Spelling.ClassText.{in_class_text, characters_text, barred_strings_text, class_text, member_text, members_text, more_members_text}
 use Rattle.rx_tools.specs.Leaves.{is_nested, are_flat, is_flat}
+
+-- what is said of contents of a variant whose mirror is known
+pub of_contents : {A : Type 0} (said : Member → A) {c variant : CharacterClassContents} {m : Member} → c ≡ variant → mirror_contents variant ≡ m → said (mirror_contents c) ≡ said m
+of_contents said is mirrored = ap (λ x. said (mirror_contents x)) is ∙ ap said mirrored
 
 pub characters_next : (mode : Mode) (cs : List Character) (i : ℕ) (d : Character) → i < length cs →
     characters_text mode (drop i cs) ≡ in_class_text mode (get_or cs i d) ++ characters_text mode (drop (i + 1) cs)

@@ -1,12 +1,17 @@
 -- Terms and alternatives in order: their texts and their sizes.
-use Rattle.std.proofs.Common.{◌≡◌, refl, ap, ℕ, suc, ◌+◌, ◌<◌, ◌≤◌, false, List, [], ◌++◌, length, drop, get_or, add-one, codes, map}
+use Rattle.std.proofs.Common.{◌≡◌, refl, ap, ◌∙◌, ℕ, suc, ◌+◌, ◌<◌, ◌≤◌, false, List, [], ◌++◌, length, drop, get_or, add-one, codes, map}
 use Rattle.std.proofs.Math.Seq.{drop-cons}
 use Rattle.std.proofs.lemmas.List.{drop_all}
 use Rattle.rx_ast.specs.declared.term.Alternative.{Alternative}
-use Rattle.rx_ast.specs.Tree.{Alternatives, no_alternative, alternative, alternatives, nodes, mirror_term, mirror_alternative}
+use Rattle.rx_ast.specs.declared.term.Term.{Term}
+use Rattle.rx_ast.specs.Tree.{Alternatives, Node, no_alternative, alternative, alternatives, nodes, mirror_term, mirror_alternative}
 use Rattle.rx_ast.proofs.Equations.{alternative_is}
 use Rattle.rx_model.specs.declared.mode.Mode.{Mode}
 use Rattle.rx_model.specs.Spelling.Spelling.{nodes_text, alternatives_text, barred_text}
+
+-- what is said of a term of a variant whose mirror is known
+pub of_term : {A : Type 0} (said : Node → A) {t variant : Term} {n : Node} → t ≡ variant → mirror_term variant ≡ n → said (mirror_term t) ≡ said n
+of_term said is mirrored = ap (λ x. said (mirror_term x)) is ∙ ap said mirrored
 
 -- alternatives, the first after this text and each other one after a bar
 abbrev pub alternatives_after : Mode → List ℕ → Alternatives → List ℕ
