@@ -2,6 +2,7 @@
 use Rattle.std.proofs.Common.{◌≡◌, ap, ◌∙◌, ℕ, List, [], ◌++◌, Option}
 use Rattle.std.proofs.KnownBytes.{Appends-nil, Appends-trans}
 use Rattle.std.proofs.lemmas.Str.{encodes_same}
+use Rattle.std.specs.Prelude.{OnOk, Result}
 use Rattle.std.specs.Str.{encode_utf8_all}
 use Rattle.rx_tasks.proofs.Texts.{Composes}
 use Rattle.rx_tools.specs.Utf8.{utf8}
@@ -16,6 +17,10 @@ module _ {W : Type 0} (taken : W → Option (List ℕ)) where
 
   pub no_text : (w : W) → writes taken w [] w
   no_text w = rw utf8-nil (Appends-nil (taken w))
+
+-- the same text, spelled in another way
+pub same_written : {W T E : Type 0} (taken : W → Option (List ℕ)) {v w : W} {result : Result T E} (text : List ℕ) {wanted : List ℕ} → wanted ≡ text → OnOk result (writes taken v text w) → OnOk result (writes taken v wanted w)
+same_written taken text same written = rw same written
 
 -- a text that grew from nothing
 pub text_is : (old new text : List ℕ) → old ≡ [] → encode_utf8_all new ≡ encode_utf8_all old ++ utf8 text → new ≡ text
