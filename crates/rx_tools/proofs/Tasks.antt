@@ -14,14 +14,15 @@ use Rattle.rx_ast.specs.declared.term.Term.{Term}
 use Rattle.rx_ast.specs.declared.term.Term.TheVariants as term
 use Rattle.rx_ast.specs.Forget.{bare}
 use Rattle.rx_ast.specs.Texts.{opener_text, quantifier_text}
-use Rattle.rx_ast.specs.Tree.{Node, capturing, group, ignoring, leaf, looking, mirror_disjunction, mirror_term, nodes, quantified}
+use Rattle.rx_ast.specs.Tree.{Leaf, Node, capturing, group, ignoring, leaf, looking, mirror_disjunction, mirror_term, nodes, quantified}
 use Rattle.rx_ast.proofs.Equations.{alternative_is, disjunction_is, tree_of_quantifier, tree_of_capturing, tree_of_ignore, tree_of_look}
 use Rattle.rx_display.specs.Tasks.{tree_of}
 use Rattle.rx_model.specs.declared.mode.Mode.{Mode}
-use Rattle.rx_model.specs.Spelling.Spelling.{alternatives_text, barred_text, node_text, nodes_text, refers, spelling}
+use Rattle.rx_model.specs.Spelling.Spelling.{alternatives_text, barred_text, leaf_text, node_text, nodes_text, refers, spelling}
 use Rattle.rx_model.proofs.Spelling.Spelling.{spelling_bare}
 use Rattle.rx_tools.specs.Leaves.{is_leaf}
 use Rattle.rx_tools.specs.Tasks.{opening_text}
+use Rattle.rx_tools.proofs.Trees.{of_term}
 
 pub disjunction_cut : (mode : Mode) (all : List Alternative) (first : Alternative) (others : List Alternative) → all ≡ first ∷ others →
     alternatives_text mode (tree_of all) ≡ nodes_text mode false (nodes (map mirror_term first.body)) ++ barred_text mode (tree_of others)
@@ -49,6 +50,13 @@ opening_of_leaf mode after_reference (quantified s min max greedy n) single = ab
 opening_of_leaf mode after_reference (group s o d more) single = absurd (false≢true single)
 
 module _ (mode : Mode) (after_reference : Bool) (more : List ℕ) where
+  -- a term with no others in it, and what is after it
+  pub leaf_cut : {t variant : Term} {l : Leaf} {after : List ℕ} → t ≡ variant → mirror_term variant ≡ leaf l → after ≡ more →
+      node_text mode after_reference (mirror_term t) ++ more ≡ opening_text mode after_reference (mirror_term t) ++ after
+  leaf_cut {l = l} {after = after} is mirrored same =
+      of_term (λ n. node_text mode after_reference n ++ more) is mirrored ∙ ap (λ text. leaf_text mode after_reference l ++ text) (sym same)
+      ∙ sym (of_term (λ n. opening_text mode after_reference n ++ after) is mirrored)
+
   -- what a term with others in it begins with, and what is after that
   pub quantifier_cut : (q : Box Quantifier Global) → let n = mirror_term (term.Quantifier q) in
       node_text mode after_reference n ++ more ≡ opening_text mode after_reference n ++ (node_text mode after_reference (mirror_term q.value.body) ++ (quantifier_text q.value.min q.value.max q.value.greedy ++ more))
