@@ -1,4 +1,4 @@
-ghost use Rattle.std.specs.Prelude.{◌≡◌, ◌+◌, ◌<◌, ◌^◌, [], IfOk, OnOk, map};
+ghost use Rattle.std.specs.Prelude.{◌≡◌, ◌+◌, ◌<◌, ◌^◌, ◌∷◌, [], IfOk, OnOk, codes, map};
 ghost use Rattle.std.specs.Option.{option_copied};
 ghost use Rattle.rx_ast.specs.Kinds.{order, pattern as pattern_kind};
 ghost use Rattle.rx_ast.specs.MirrorKinds.{capturing_kind, mirror_kind};
@@ -7,7 +7,7 @@ ghost use Rattle.rx_visit.specs.Names.{name_of};
 ghost use Rattle.rx_json.specs.Adding.{Adds};
 ghost use Rattle.rx_json.specs.Groups.{group_of, groups_fields, groups_of, names_of, number_after, once_after};
 ghost use Rattle.rx_json.specs.Located.{located};
-ghost use Rattle.rx_json.specs.Values.{field_tokens, text, value_tokens};
+ghost use Rattle.rx_json.specs.Values.{field_tokens, list_of, text, value_tokens};
 
 use crate::member::{write_characters_or_null, write_number, write_place};
 use json::Writer;
@@ -28,11 +28,43 @@ pub fn write_groups(
     ensures { OnOk result (Adds writer.old writer.new (field_tokens (groups_fields (located places.now) (order (pattern_kind (mirror pattern.now)))))) }
 {
     let list = nodes_in_order(alloc, pattern)?;
-    let nodes = list.as_slice();
+    write_groups_among(alloc, writer, places, list.as_slice())
+}
+
+/// Writes the members that list the groups among some nodes, and their names.
+fn write_groups_among(
+    alloc: Global,
+    writer: &mut Writer,
+    places: &Places<'_>,
+    nodes: &[RegExpAstKind<'_>],
+) -> Result<(), OutOfMemory>
+    ensures { OnOk result (Adds writer.old writer.new (field_tokens (groups_fields (located places.now) (map mirror_kind nodes.now)))) }
+{
+    write_group_list(writer, places, nodes)?;
+    write_name_list(alloc, writer, nodes)
+}
+
+fn write_group_list(
+    writer: &mut Writer,
+    places: &Places<'_>,
+    nodes: &[RegExpAstKind<'_>],
+) -> Result<(), OutOfMemory>
+    ensures { OnOk result (Adds writer.old writer.new (field_tokens ((codes "groups", list_of (groups_of (located places.now) 1 (map mirror_kind nodes.now))) ∷ []))) }
+{
     writer.key("groups")?;
     writer.begin_array()?;
     write_each_group(writer, places, nodes)?;
     writer.end_array()?;
+    Ok(())
+}
+
+fn write_name_list(
+    alloc: Global,
+    writer: &mut Writer,
+    nodes: &[RegExpAstKind<'_>],
+) -> Result<(), OutOfMemory>
+    ensures { OnOk result (Adds writer.old writer.new (field_tokens ((codes "names", list_of (map text (once_after [] (names_of (map mirror_kind nodes.now))))) ∷ []))) }
+{
     writer.key("names")?;
     writer.begin_array()?;
     write_names(alloc, writer, nodes)?;
