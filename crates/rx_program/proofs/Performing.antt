@@ -37,6 +37,12 @@ made_about b t u same made = subst (λ x. all_worked b.names.now (work b x ∷ w
 pub builds_about : (b after : Builder) (t u : Task) → t ≡ u → Builds b (work b u) after → Builds b (work b t) after
 builds_about b after t u same done = subst (λ x. Builds b (work b x) after) (sym same) done
 
+pub about_node : (b : Builder) (e : Context) (n m : Node) → n ≡ m → IsBuilding b (term e.settings e.back n ∷ works b) → IsBuilding b (term e.settings e.back m ∷ works b)
+about_node b e n m same sound = subst (λ x. IsBuilding b (term e.settings e.back x ∷ works b)) same sound
+
+pub builds_node : (b after : Builder) (e : Context) (n m : Node) → n ≡ m → Builds b (term e.settings e.back m) after → Builds b (term e.settings e.back n) after
+builds_node b after e n m same done = subst (λ x. Builds b (term e.settings e.back x) after) (sym same) done
+
 -- a term with no term in it
 pub leaf_done : (b after : Builder) (e : Context) (n : Node) (l : Leaf) (f : Code → Code) → n ≡ leaf l → ((next : Code) → leaf_code b.names.now e.settings l next ≡ f next)
     → ((before : Tests) → leaf_tests l before ≡ before) → IsBuilding b (term e.settings e.back n ∷ works b) → Replaces b (on_one f) after → Builds b (term e.settings e.back n) after

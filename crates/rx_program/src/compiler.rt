@@ -197,7 +197,6 @@ impl<'a> Builder<'a> {
         })
     }
 
-    #[tactic(auto, using(rx_ast::proofs::Equations::mirrors))]
     fn term(&mut self, context: Context, term: &'a Term) -> Result<(), OutOfMemory>
         requires sound { IsBuilding self.old (term_work context term.now ∷ works self.old) }
         requires codes { 1 ≤ length self.old.codes }

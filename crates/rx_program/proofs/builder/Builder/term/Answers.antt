@@ -2,12 +2,12 @@ use Rattle.std.proofs.Common.{refl, sym, ap, ◌∙◌, ◌==◌, ◌||◌, not,
 use Rattle.std.proofs.lemmas.Result.{on_ok_weaker}
 use Rattle.rx_ast.specs.ClassTree.{mirror_class}
 use Rattle.rx_ast.specs.Tree as tree
-use Rattle.rx_ast.specs.Tree.{mirror_term}
-use Rattle.rx_ast.proofs.Equations.{boundary_is, character_is, dot_is, escape_is, property_is, class_is, indexed_is, named_is}
+use Rattle.rx_ast.specs.Tree.{mirror_capturing, mirror_ignore, mirror_look, mirror_quantifier, mirror_term}
+use Rattle.rx_ast.proofs.Equations.{boundary_is, character_is, dot_is, escape_is, property_is, class_is, indexed_is, named_is, look_term_is, quantifier_term_is, capturing_term_is, ignore_term_is}
 use Rattle.rx_program.specs.Codes as code
 use Rattle.rx_trace.specs.Groups.{slot_of, slot_named}
 use Rattle.rx_trace.specs.Holding.{is_line_terminator, escape_holds}
-use Rattle.rx_program.proofs.Performing.{leaf_done, class_done, some_row}
+use Rattle.rx_program.proofs.Performing.{about_node, builds_node, leaf_done, class_done, some_row}
 use Rattle.rx_program.proofs.builder.Builder.term.Goals as goal
 
 pub returns-in-BoundaryAssertion : goal.returns-in-BoundaryAssertion
@@ -57,3 +57,31 @@ returns-in-NamedReference c =
     on_ok_weaker c.refer_by_name.result
     (leaf_done c.args.self.now c.refer_by_name.new.self c.args.context (mirror_term c.args.term.now) (tree.named r) (code.refer (slot_named r.name c.args.self.now.names.now))
     (ap mirror_term c.in-NamedReference.is ∙ named_is c.in-NamedReference.it ∙ ap (λ b. tree.leaf (tree.named b)) (sym c.deref-in-NamedReference.ensures)) (λ next. refl) (λ before. refl) c.requires.sound) c.refer_by_name.ensures
+
+pub look_around_body-requires : goal.look_around_body-requires
+look_around_body-requires c = record { sound = about_node c.args.self.now c.args.context _ _ (ap mirror_term c.in-LookAroundAssertion.is ∙ look_term_is c.in-LookAroundAssertion.it ∙ ap mirror_look (sym c.deref.ensures)) c.requires.sound }
+
+pub returns-in-LookAroundAssertion : goal.returns-in-LookAroundAssertion
+returns-in-LookAroundAssertion c =
+    on_ok_weaker c.look_around_body.result (builds_node c.args.self.now c.look_around_body.new.self c.args.context _ _ (ap mirror_term c.in-LookAroundAssertion.is ∙ look_term_is c.in-LookAroundAssertion.it ∙ ap mirror_look (sym c.deref.ensures))) c.look_around_body.ensures
+
+pub quantifier_body-requires : goal.quantifier_body-requires
+quantifier_body-requires c = record { sound = about_node c.args.self.now c.args.context _ _ (ap mirror_term c.in-Quantifier.is ∙ quantifier_term_is c.in-Quantifier.it ∙ ap mirror_quantifier (sym c.deref-in-Quantifier.ensures)) c.requires.sound }
+
+pub returns-in-Quantifier : goal.returns-in-Quantifier
+returns-in-Quantifier c =
+    on_ok_weaker c.quantifier_body.result (builds_node c.args.self.now c.quantifier_body.new.self c.args.context _ _ (ap mirror_term c.in-Quantifier.is ∙ quantifier_term_is c.in-Quantifier.it ∙ ap mirror_quantifier (sym c.deref-in-Quantifier.ensures))) c.quantifier_body.ensures
+
+pub capturing_body-requires : goal.capturing_body-requires
+capturing_body-requires c = record { sound = about_node c.args.self.now c.args.context _ _ (ap mirror_term c.in-CapturingGroup.is ∙ capturing_term_is c.in-CapturingGroup.it ∙ ap mirror_capturing (sym c.deref-in-CapturingGroup.ensures)) c.requires.sound }
+
+pub returns-in-CapturingGroup : goal.returns-in-CapturingGroup
+returns-in-CapturingGroup c =
+    on_ok_weaker c.capturing_body.result (builds_node c.args.self.now c.capturing_body.new.self c.args.context _ _ (ap mirror_term c.in-CapturingGroup.is ∙ capturing_term_is c.in-CapturingGroup.it ∙ ap mirror_capturing (sym c.deref-in-CapturingGroup.ensures))) c.capturing_body.ensures
+
+pub ignored_body-requires : goal.ignored_body-requires
+ignored_body-requires c = record { sound = about_node c.args.self.now c.args.context _ _ (ap mirror_term c.in-IgnoreGroup.is ∙ ignore_term_is c.in-IgnoreGroup.it ∙ ap mirror_ignore (sym c.deref-in-IgnoreGroup.ensures)) c.requires.sound }
+
+pub returns-in-IgnoreGroup : goal.returns-in-IgnoreGroup
+returns-in-IgnoreGroup c =
+    on_ok_weaker c.ignored_body.result (builds_node c.args.self.now c.ignored_body.new.self c.args.context _ _ (ap mirror_term c.in-IgnoreGroup.is ∙ ignore_term_is c.in-IgnoreGroup.it ∙ ap mirror_ignore (sym c.deref-in-IgnoreGroup.ensures))) c.ignored_body.ensures
