@@ -120,7 +120,7 @@ def make(work, interrupted="interrupted"):
         work(line)
         line.erase()
         return 0
-    except Failed as failed:
+    except (Failed, OSError) as failed:
         line.say(failed)
         return 1
     except Interrupted as signalled:

@@ -3,11 +3,12 @@
 
     tools/prove.py
 
-It has `rt lib` prove one crate after another, those first that others stand on, and then `rt run` build the program. `rt` gives a crate the processors that it can use, and
-keeps in `out/` what it proved; so a run that was interrupted goes on where it was. How long the rest takes is told by how long this run took for the crates that it proved, and
-by the processor time of each crate's proof, in the table `tools/proof_seconds.txt`.
+It has `rt ci` do so in a copy of the crates that the program needs, without the bodies that must be refused: crates are proved side by side, each over the statements of those
+below it, and what is proved is kept beside the toolchain. So a run that was interrupted goes on with the crates that were not proved yet. Where nothing can be kept there,
+`rt lib` proves one crate after another, and keeps each in its `out/`. How long the rest takes is told by how long this run took for the crates that it proved, and by the
+processor time of each crate's proof, in the table `tools/proof_seconds.txt`.
 """
-import functools
+import contextlib
 import os
 import re
 import shutil
@@ -19,80 +20,53 @@ import progress
 
 TOP = os.path.dirname(os.path.dirname(os.path.abspath(__file__)))
 PROGRAM = "rx_cli"
+BUILT = f"crates/{PROGRAM}/out/{PROGRAM}"
 TABLE = f"{TOP}/tools/proof_seconds.txt"
-PARTS = ("src", "specs", "proofs")
+# What no copy of a crate has: what was built there, and the bodies that must be refused.
+LEFT_OUT = ("out", "must-fail")
+# What `rt ci` says where the proof of a crate ends, and how that is told.
+ENDED = re.compile(r"^rt: (\w+) (proved|is kept|NOT PROVED)", re.MULTILINE)
+TOLD = {"proved": "is proved", "is kept": "was proved before", "NOT PROVED": "is not proved"}
+# What it says of a crate that was proved in this run, or in an earlier one.
+PROVED = re.compile(r"^== (\w+)\n.*?^rt: \1 proved\n|^rt: \w+ is kept: [^\n]*\n|^[^\n]*: proved\n", re.DOTALL | re.MULTILINE)
 # The processor time of a line's proof where the table has no crate, in seconds.
 SECONDS_A_LINE = 0.05
 # No crate is taken to need less than this.
 LEAST = 5
-# What is left to do in a crate that `rt` has work of: after an edit next to nothing, after an interrupt more.
-SHARE_AFTER_WORK = 0.2
-# How much of a crate may be taken as done before it ends.
-MOST_DONE = 0.95
-# How many times faster n processors prove than one: n to this power, for four at most.
-POWER = 0.6
-MOST_PROCESSORS = 4
+# How many times faster n processors prove than one: n to this power, for eight at most, since crates wait for those below them.
+POWER = 0.8
+MOST_PROCESSORS = 8
 # For how many seconds of the table that figure counts beside what this run took.
-TRUSTED = 120
-FUNCTIONS = re.compile(r"so far: (\d+) of (\d+) functions")
+TRUSTED = 600
+# For how many seconds after a crate that was proved before nothing is told of the rest: more may have been.
+QUIET = 15
+# How often it is tried to remove a folder in which what is ending may still write.
+TRIES = 20
 
 
 def listed():
-    """The crates of crates.txt, each with those that it stands on."""
+    """The crates of crates.txt, each with its line."""
     with open(f"{TOP}/crates.txt", encoding="utf-8") as file:
-        lines = [line.partition("#")[0].partition(":") for line in file]
-    found = {name.split()[0]: libraries.split() for name, colon, libraries in lines if colon}
-    return {name: [it for it in libraries if it in found] for name, libraries in found.items()}
+        return {line.partition(":")[0].split()[0]: line.rstrip("\n") for line in file if ":" in line.partition("#")[0]}
 
 
-def below(graph, name):
+def below(lines, name):
     """The crates below a crate, each after those that it stands on."""
     found = []
-    for library in graph[name]:
-        found += [it for it in [*below(graph, library), library] if it not in found]
+    for library in lines[name].partition("#")[0].partition(":")[2].split():
+        if library in lines:
+            found += [it for it in [*below(lines, library), library] if it not in found]
     return found
-
-
-def files_of(name):
-    for part in PARTS:
-        for folder, _, names in os.walk(f"{TOP}/crates/{name}/{part}"):
-            yield from (f"{folder}/{it}" for it in names)
 
 
 def lines_of(name):
     count = 0
-    for path in files_of(name):
-        with open(path, "rb") as file:
-            count += file.read().count(b"\n")
+    for folder, folders, names in os.walk(f"{TOP}/crates/{name}"):
+        folders[:] = [it for it in folders if it not in LEFT_OUT]
+        for it in names:
+            with open(f"{folder}/{it}", "rb") as file:
+                count += file.read().count(b"\n")
     return count
-
-
-@functools.lru_cache(maxsize=None)
-def changed(name):
-    """When a file of the crate changed last."""
-    return max((os.stat(path).st_mtime for path in files_of(name)), default=0)
-
-
-def installed():
-    """When the toolchain came to this machine: another one builds all anew."""
-    path = shutil.which("rt")
-    return os.stat(path).st_ctime if path else 0
-
-
-def is_proved(graph, name):
-    """Whether the library was built after the last change of its files, and of those of the crates below it."""
-    try:
-        built = os.stat(f"{TOP}/crates/{name}/out/rlib/stamp").st_mtime
-    except OSError:
-        return False
-    return built >= max(installed(), *[changed(it) for it in [name, *below(graph, name)]])
-
-
-def has_work(name):
-    try:
-        return bool(os.listdir(f"{TOP}/crates/{name}/out/incremental"))
-    except OSError:
-        return False
 
 
 def table():
@@ -114,113 +88,161 @@ def seconds_of(names):
     return {name: max(LEAST, known.get(name, lines[name] * each)) for name in names}
 
 
-def processors():
-    return min(len(os.sched_getaffinity(0)), MOST_PROCESSORS)
-
-
 class Estimate:
-    """What is done of the proofs that this run has to do, by the seconds of the table, and in what time."""
+    """What is left to prove by the seconds of the table, and how long that takes."""
 
-    def __init__(self, crates, seconds):
-        self.left = {name: seconds[name] * (SHARE_AFTER_WORK if has_work(name) else 1) for name in crates}
-        self.whole = sum(self.left.values())
-        self.before = processors() ** -POWER
+    def __init__(self, seconds):
+        self.left, self.done = dict(seconds), 0
+        self.before = min(len(os.sched_getaffinity(0)), MOST_PROCESSORS) ** -POWER
+        self.until, self.quiet = self.rest(0), QUIET
 
-    def pace(self, done, elapsed):
-        """Seconds by the clock for a second of the table: those that were measured, and at first those of so many processors."""
-        return (elapsed + TRUSTED * self.before) / (done + TRUSTED)
+    def rest(self, elapsed):
+        """The seconds by the clock that are left: a second of the table takes as long as in this run so far, and at first what it takes for so many processors."""
+        return sum(self.left.values()) * (elapsed + TRUSTED * self.before) / (self.done + TRUSTED)
 
-    def rest(self, running, share, ran, elapsed):
-        """The seconds by the clock that are left: of one crate, which has run for some seconds, a share is done, where that is known."""
-        done = self.whole - sum(self.left.values())
-        its = self.left[running]
-        by_time = ran / self.pace(done, elapsed - ran) / its
-        done += its * min(by_time if share is None else share, MOST_DONE)
-        return (self.whole - done) * self.pace(done, elapsed)
+    def end(self, name, was_proved_before, elapsed):
+        seconds = self.left.pop(name)
+        if not was_proved_before:
+            self.done += seconds
+        self.until, self.quiet = elapsed + self.rest(elapsed), elapsed + QUIET if was_proved_before else 0
+
+    def told(self, elapsed):
+        return "" if elapsed < self.quiet else f", {minutes(self.until - elapsed)} left"
 
 
-def told(left):
-    return f"about {max(1, round(left / 60))} min left"
+def minutes(seconds):
+    return f"about {max(1, round(seconds / 60))} min"
 
 
 class Work:
-    """The crates to prove and those that are proved, with the time that this takes."""
+    """The crates that the program needs, and how far their proofs are."""
 
     def __init__(self, line):
-        self.line, self.elapsed = line, 0
-        graph = listed()
-        self.needed = [*below(graph, PROGRAM), PROGRAM]
-        self.to_do = [name for name in self.needed if name == PROGRAM or not is_proved(graph, name)]
-        self.estimate = Estimate(self.to_do, seconds_of(self.to_do))
+        lines = listed()
+        self.needed = [*below(lines, PROGRAM), PROGRAM]
+        self.lines = [lines[name] for name in self.needed]
+        self.estimate = Estimate(seconds_of(self.needed))
+        self.line, self.since, self.began, self.read, self.last = line, time.time(), time.monotonic(), 0, ""
 
     def begin(self):
-        count, left = len(self.to_do), told(self.estimate.whole * self.estimate.before)
-        self.line.say(f"proving and building the program: {count} of {len(self.needed)} crates, {left}")
-        if count > 1:
-            self.line.say("you may interrupt it: a new run continues where this one stopped; ./regexp quick .. needs no proofs, and answers after a minute or two")
+        first = minutes(self.estimate.until)
+        self.line.say(f"proving and building the program: {len(self.needed)} crates, {first} where none of them was proved before")
+        self.line.say("you may interrupt it: what is proved by then is kept; ./regexp quick .. needs no proofs, and answers after a minute or two")
 
-    def state(self, name, share, ran):
-        elapsed = self.elapsed + ran
-        proved = len(self.needed) - len(self.estimate.left)
-        rest = told(self.estimate.rest(name, share, ran, elapsed)) if self.estimate.left else "nothing left"
-        return f"{proved} of {len(self.needed)} crates proved, {progress.gone(elapsed)}, {rest}"
+    def date(self, program):
+        """Whatever changed since the work began is newer than the program."""
+        os.utime(program, (self.since, self.since))
 
-    def show(self, name, log, ran):
-        """Shows how far the work is while a crate is proved."""
+    def elapsed(self):
+        return time.monotonic() - self.began
+
+    def state(self):
+        elapsed, proved = self.elapsed(), len(self.needed) - len(self.estimate.left)
+        return f"{proved} of {len(self.needed)} crates proved, {progress.gone(elapsed)}{self.estimate.told(elapsed)}{self.last}"
+
+    def end(self, name, how):
+        """Tells how the proof of a crate ended; on a terminal the line that moves shows it."""
+        if how != "NOT PROVED":
+            self.estimate.end(name, how == "is kept", self.elapsed())
+        self.last = f": {name} {TOLD[how]}"
         if not self.line.is_terminal:
-            return
-        said = progress.text_in(log)
-        found = FUNCTIONS.findall(said)
-        share = int(found[-1][0]) / max(1, int(found[-1][1])) if found else None
-        of_it = f", {found[-1][0]} of {found[-1][1]} functions" if found else ""
-        last = said.rstrip("\n").rpartition("\n")[2]
-        waits = ", which waits for another rt" if "waiting for" in last else ""
-        self.line.move(f"{self.state(name, share, ran)}: {name}{of_it}{waits}")
+            self.line.say(self.state())
 
-    def prove(self, name):
-        verb = "run" if name == PROGRAM else "lib"
+    def news(self, log):
+        """The whole lines of the log that were not read before."""
+        with open(log.name, "rb") as file:
+            file.seek(self.read)
+            text = file.read()
+        text = text[: text.rfind(b"\n") + 1]
+        self.read += len(text)
+        return text.decode(errors="replace")
+
+    def follow(self, log):
+        """Tells which proofs ended since this was called last, and shows how far the work is."""
+        news = self.news(log)
+        for name, how in ENDED.findall(news):
+            self.end(name, how)
+        if "waiting for" in news.rstrip("\n").rpartition("\n")[2]:
+            self.last = ": waiting for another rt"
+        self.line.move(self.state())
+
+    def run(self, words, folder, named, **others):
+        """Runs a command that proves crates, and returns what it said. Where it fails, that is shown, with the folder under the name of another."""
         with tempfile.NamedTemporaryFile(prefix="regexp-") as log:
-            ran = 0
-
-            def each(seconds):
-                nonlocal ran
-                ran = seconds
-                self.show(name, log, seconds)
-
-            status = progress.run(["rt", verb], f"{TOP}/crates/{name}", log, each)
-            self.elapsed += ran
-            if status:
-                self.line.erase()
-                self.line.write(without_proved(progress.text_in(log)))
-                raise progress.Failed(f"{name} was not proved and built; what rt {verb} said of it stands above")
-        del self.estimate.left[name]
-
-    def tell(self, name):
-        """Says what was proved, where no line moves."""
-        if not self.line.is_terminal and self.estimate.left:
-            following = next(iter(self.estimate.left))
-            self.line.say(f"{self.state(following, None, 0)}: {name} is proved")
+            self.read = 0
+            status = progress.run(words, folder, log, lambda _: self.follow(log), **others)
+            self.follow(log)
+            said = progress.text_in(log)
+        if status:
+            self.line.erase()
+            self.line.write(PROVED.sub("", said).replace(folder, named))
+            raise progress.Failed(f"the program was not proved and built; what {' '.join(words)} said of it stands above")
+        return said
 
 
-def without_proved(said):
-    """What `rt` said, without the lines of what it proved."""
-    return "".join(line for line in said.splitlines(True) if not line.rstrip().endswith(": proved"))
+@contextlib.contextmanager
+def room():
+    """A folder that is removed in the end. All may pass through it, since where `rt` runs as root, it runs the program as nobody."""
+    folder = tempfile.mkdtemp(prefix="regexp-")
+    try:
+        os.chmod(folder, 0o711)
+        yield folder
+    finally:
+        for _ in range(TRIES):
+            shutil.rmtree(folder, ignore_errors=True)
+            if not os.path.exists(folder):
+                break
+            time.sleep(progress.TICK)
+
+
+def copy(work, folder):
+    """Copies the crates that the program needs, as a repository of their own."""
+    os.makedirs(f"{folder}/.git")
+    with open(f"{folder}/crates.txt", "w", encoding="utf-8") as file:
+        file.writelines(f"{line}\n" for line in work.lines)
+    shutil.copy2(f"{TOP}/HANDLES", folder)
+    for name in work.needed:
+        shutil.copytree(f"{TOP}/crates/{name}", f"{folder}/crates/{name}", symlinks=True, ignore=shutil.ignore_patterns(*LEFT_OUT))
+
+
+def side_by_side(work):
+    """Has `rt ci` prove a copy, and takes the program from there. The copy is no part of the checkout, in which `rt` refuses crates that the list at its top does not name."""
+    program = f"{TOP}/{BUILT}"
+    with room() as folder:
+        copy(work, f"{folder}/copy")
+        work.run(["rt", "ci"], f"{folder}/copy", TOP, env={**os.environ, "TMPDIR": folder})
+        os.makedirs(os.path.dirname(program), exist_ok=True)
+        shutil.copy2(f"{folder}/copy/{BUILT}", f"{program}.new")
+    work.date(f"{program}.new")
+    os.replace(f"{program}.new", program)
+
+
+def in_turn(work):
+    """Has `rt lib` prove one crate after another, and `rt run` the program. Of a crate that was proved before, `rt lib` says nothing."""
+    for name in work.needed:
+        folder = f"{TOP}/crates/{name}"
+        said = work.run(["rt", "run" if name == PROGRAM else "lib"], folder, folder)
+        work.end(name, "proved" if said else "is kept")
+    work.date(f"{TOP}/{BUILT}")
+
+
+def can_keep():
+    """Whether what `rt ci` proves is kept for later runs: in a folder beside the toolchain, which belongs to the first who ran it."""
+    with tempfile.NamedTemporaryFile(prefix="regexp-") as log:
+        status = progress.run(["rt", "doc"], TOP, log, lambda _: None)
+        beside = os.path.dirname(os.path.dirname(progress.text_in(log).strip()))
+    store = f"{beside}/rattle-kept"
+    if status or not beside:
+        return False
+    return os.stat(store).st_uid == os.geteuid() if os.path.exists(store) else os.access(beside, os.W_OK)
 
 
 def work(line):
-    began = time.time()
     it = Work(line)
     it.begin()
-    for name in it.to_do:
-        it.prove(name)
-        it.tell(name)
-    program = f"{TOP}/crates/{PROGRAM}/out/{PROGRAM}"
-    if not os.path.isfile(program):
-        raise progress.Failed(f"rt run left no program {program}")
-    # Whatever changed since then is newer than the program.
-    os.utime(program, (began, began))
-    line.say(f"the program is proved and built, {progress.gone(it.elapsed)}")
+    (side_by_side if can_keep() else in_turn)(it)
+    line.say(f"the program is proved and built, {progress.gone(it.elapsed())}")
 
 
 if __name__ == "__main__":
-    sys.exit(progress.make(work, "interrupted; a new run continues where this one stopped"))
+    sys.exit(progress.make(work, "interrupted; a new run goes on with the crates that were not proved yet"))
