@@ -33,9 +33,11 @@ PROVED = re.compile(r"^== (\w+)\n.*?^rt: \1 proved\n|^rt: \w+ is kept: [^\n]*\n|
 SECONDS_A_LINE = 0.05
 # No crate is taken to need less than this.
 LEAST = 5
-# How many times faster n processors prove than one: n to this power, for eight at most, since crates wait for those below them.
+# What a check takes of memory, at most. `rt` counts some four times as much for the largest crates, and would prove next to nothing beside them.
+BYTES_A_CHECK = 4 << 30
+# How many times faster n checks side by side are than one: n to this power, for eight at most, since crates wait for those below them.
 POWER = 0.8
-MOST_PROCESSORS = 8
+MOST_CHECKS = 8
 # For how many seconds of the table that figure counts beside what this run took.
 TRUSTED = 600
 # For how many seconds after a crate that was proved before nothing is told of the rest: more may have been.
@@ -88,16 +90,23 @@ def seconds_of(names):
     return {name: max(LEAST, known.get(name, lines[name] * each)) for name in names}
 
 
+def checks():
+    """How many crates are proved side by side: as many as there are processors and memory for, or as the environment says."""
+    memory = os.sysconf("SC_PHYS_PAGES") * os.sysconf("SC_PAGE_SIZE")
+    said = os.environ.get("RT_JOBS", "")
+    return int(said) if said.isdigit() and int(said) else max(1, min(len(os.sched_getaffinity(0)), memory // BYTES_A_CHECK))
+
+
 class Estimate:
     """What is left to prove by the seconds of the table, and how long that takes."""
 
     def __init__(self, seconds):
         self.left, self.done = dict(seconds), 0
-        self.before = min(len(os.sched_getaffinity(0)), MOST_PROCESSORS) ** -POWER
+        self.before = min(checks(), MOST_CHECKS) ** -POWER
         self.until, self.quiet = self.rest(0), QUIET
 
     def rest(self, elapsed):
-        """The seconds by the clock that are left: a second of the table takes as long as in this run so far, and at first what it takes for so many processors."""
+        """The seconds by the clock that are left: a second of the table takes as long as in this run so far, and at first what it takes for so many checks."""
         return sum(self.left.values()) * (elapsed + TRUSTED * self.before) / (self.done + TRUSTED)
 
     def end(self, name, was_proved_before, elapsed):
@@ -210,7 +219,7 @@ def side_by_side(work):
     program = f"{TOP}/{BUILT}"
     with room() as folder:
         copy(work, f"{folder}/copy")
-        work.run(["rt", "ci"], f"{folder}/copy", TOP, env={**os.environ, "TMPDIR": folder})
+        work.run(["rt", "ci"], f"{folder}/copy", TOP, env={**os.environ, "TMPDIR": folder, "RT_JOBS": str(checks())})
         os.makedirs(os.path.dirname(program), exist_ok=True)
         shutil.copy2(f"{folder}/copy/{BUILT}", f"{program}.new")
     work.date(f"{program}.new")
