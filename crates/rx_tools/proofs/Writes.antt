@@ -19,8 +19,8 @@ module _ {W : Type 0} (taken : W → Option (List ℕ)) where
   no_text w = rw utf8-nil (Appends-nil (taken w))
 
 -- the same text, spelled in another way
-pub same_written : {W T E : Type 0} (taken : W → Option (List ℕ)) {v w : W} {result : Result T E} (text : List ℕ) {wanted : List ℕ} → wanted ≡ text → OnOk result (writes taken v text w) → OnOk result (writes taken v wanted w)
-same_written taken text same written = rw same written
+pub same_written : {W T E : Type 0} (taken : W → Option (List ℕ)) (v w : W) (result : Result T E) (text : List ℕ) {wanted : List ℕ} → wanted ≡ text → OnOk result (writes taken v text w) → OnOk result (writes taken v wanted w)
+same_written taken v w result text same written = rw same written
 
 -- a text that grew from nothing
 pub text_is : (old new text : List ℕ) → old ≡ [] → encode_utf8_all new ≡ encode_utf8_all old ++ utf8 text → new ≡ text

@@ -15,22 +15,22 @@ returns-in-Quantifier g c = rw (c.in-Quantifier.is, tree_of_quantifier c.in-Quan
 pub returns-in-LookAroundAssertion : goal.returns-in-LookAroundAssertion
 returns-in-LookAroundAssertion g c =
     let is = of_term (opening_text c.args.mode c.args.after_reference) c.in-LookAroundAssertion.is (tree_of_look c.in-LookAroundAssertion.it) in
-    same_written g.W.TextSink.taken _ is (rw (c.look_text.ensures, c.deref.ensures) at c.write_str.ensures.whole)
+    same_written g.W.TextSink.taken _ _ _ _ is (rw (c.look_text.ensures, c.deref.ensures) at c.write_str.ensures.whole)
 
 pub returns-in-CapturingGroup : goal.returns-in-CapturingGroup
 returns-in-CapturingGroup g c =
     let is = of_term (opening_text c.args.mode c.args.after_reference) c.in-CapturingGroup.is (tree_of_capturing c.in-CapturingGroup.it) in
-    same_written g.W.TextSink.taken _ is (rw c.deref-in-CapturingGroup.ensures at c.write_capturing.ensures.whole)
+    same_written g.W.TextSink.taken _ _ _ _ is (rw c.deref-in-CapturingGroup.ensures at c.write_capturing.ensures.whole)
 
 pub returns-in-IgnoreGroup : goal.returns-in-IgnoreGroup
 returns-in-IgnoreGroup g c =
     let is = of_term (opening_text c.args.mode c.args.after_reference) c.in-IgnoreGroup.is (tree_of_ignore c.in-IgnoreGroup.it) in
-    same_written g.W.TextSink.taken _ is (rw c.deref-in-IgnoreGroup.ensures at c.write_ignoring.ensures.whole)
+    same_written g.W.TextSink.taken _ _ _ _ is (rw c.deref-in-IgnoreGroup.ensures at c.write_ignoring.ensures.whole)
 
 pub returns-in-CharacterClass : goal.returns-in-CharacterClass
 returns-in-CharacterClass g c =
     let class = class_is c.in-CharacterClass.it ∙ ap (λ x. leaf (tree.class (mirror_class x))) (sym c.deref-in-CharacterClass.ensures) in
-    same_written g.W.TextSink.taken _ (of_term (opening_text c.args.mode c.args.after_reference) c.in-CharacterClass.is class) c.write_class.ensures
+    same_written g.W.TextSink.taken _ _ _ _ (of_term (opening_text c.args.mode c.args.after_reference) c.in-CharacterClass.is class) c.write_class.ensures
 
 pub write_alone-requires : goal.write_alone-requires
 write_alone-requires g c = of_term is_leaf c.in-BoundaryAssertion.is (boundary_is c.in-BoundaryAssertion.field-0)
